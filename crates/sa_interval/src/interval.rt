@@ -59,10 +59,7 @@ impl Interval {
         ensures row { result ≡ sum_of self o }
         ensures least { IsLeast (Sums self o) result }
     {
-        Interval {
-            lo: limited(self.lo + o.lo),
-            hi: limited(self.hi + o.hi),
-        }
+        cut_between(self.lo + o.lo, self.hi + o.hi)
     }
 
     /// The least interval that holds the cut of each difference.
@@ -70,10 +67,7 @@ impl Interval {
         ensures row { result ≡ difference_of self o }
         ensures least { IsLeast (Differences self o) result }
     {
-        Interval {
-            lo: limited(self.lo - o.hi),
-            hi: limited(self.hi - o.lo),
-        }
+        cut_between(self.lo - o.hi, self.hi - o.lo)
     }
 
     /// The least interval that both lie in.
@@ -105,6 +99,17 @@ impl Interval {
         ensures fact { IsTrue result ↔ IsPart self o }
     {
         o.lo <= self.lo && self.hi <= o.hi
+    }
+}
+
+/// From the cut of `lo` to the cut of `hi`.
+fn cut_between(lo: i128, hi: i128) -> Interval
+    requires { lo ≤ℤ hi }
+    ensures { result ≡ record { lo = cut lo; hi = cut hi } }
+{
+    Interval {
+        lo: limited(lo),
+        hi: limited(hi),
     }
 }
 
