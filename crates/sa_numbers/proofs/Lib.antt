@@ -1,2 +1,3 @@
 pub mod Cut
+pub mod Halves
 pub mod Order
