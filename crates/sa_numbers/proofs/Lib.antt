@@ -1,3 +1,9 @@
+pub mod Bits
+pub mod Corners
 pub mod Cut
 pub mod Halves
 pub mod Order
+pub mod Products
+pub mod Quotients
+pub mod Remainders
+pub mod Shifts
