@@ -5,5 +5,7 @@ pub mod Halves
 pub mod Order
 pub mod Products
 pub mod Quotients
+pub mod Masks
 pub mod Remainders
+pub mod Residues
 pub mod Shifts
