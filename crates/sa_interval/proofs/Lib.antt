@@ -1,5 +1,9 @@
+pub mod Hulls
 pub mod Least
-pub mod Sums
 pub mod Members
+pub mod Products
+pub mod Quotients
+pub mod Remainders
 pub mod Rising
 pub mod Stops
+pub mod Sums

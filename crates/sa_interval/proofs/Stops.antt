@@ -13,29 +13,7 @@ use Rattle.sa_interval.specs.Span.{Span, IsPart, IsInterval}
 use Rattle.sa_interval.specs.Widening.{nearest_below, nearest_above, lowered, raised, widening_of, IsNearestBelow, IsNearestAbove, StopsNearest, IsBetween}
 use Rattle.sa_interval.proofs.Members.{Contains-filter, Contains-from_filter}
 use Rattle.sa_interval.proofs.Rising.{rising_far}
-use Rattle.sa_numbers.proofs.Order.{≤ℤ_antisym, ≤ℤ_trans}
-
--- the tests
-pub le_from : (x y : ℤ) → int_le x y ≡ true → x ≤ℤ y
-le_from x y h = grind (arith, ints)
-
-pub le_to : (x y : ℤ) → x ≤ℤ y → int_le x y ≡ true
-le_to x y h = grind (arith, ints)
-
-pub above_from : (x y : ℤ) → int_le x y ≡ false → y <ℤ x
-above_from x y h = grind (arith, ints)
-
-above_to : (x y : ℤ) → y <ℤ x → int_le x y ≡ false
-above_to x y h = grind (arith, ints)
-
-pub lt_from : (x y : ℤ) → int_lt x y ≡ true → x <ℤ y
-lt_from x y h = grind (arith, ints)
-
-pub lt_to : (x y : ℤ) → x <ℤ y → int_lt x y ≡ true
-lt_to x y h = grind (arith, ints)
-
-pub not_lt_from : (x y : ℤ) → int_lt x y ≡ false → y ≤ℤ x
-not_lt_from x y h = grind (arith, ints)
+use Rattle.sa_numbers.proofs.Order.{≤ℤ_antisym, ≤ℤ_trans, le_from, le_to, above_from, above_to, lt_from, lt_to, not_lt_from}
 
 -- where a binary search stops
 pub parted_at_most : (ts : List ℤ) (z : ℤ) → IsStrictlySortedBy int_cmp ts → IsPartitionedBy (λ t. int_le t z) ts

@@ -17,6 +17,11 @@ pub record IsPart (s t : Span) : Type 0 where
   pub above : t.lo ≤ℤ s.lo
   pub below : s.hi ≤ℤ t.hi
 
+-- the number may be a bound
+pub record IsBound (z : ℤ) : Type 0 where
+  pub low : low_limit ≤ℤ z
+  pub high : z ≤ℤ high_limit
+
 -- what every interval meets: it is not empty, and its bounds are within the limits
 pub record IsInterval (s : Span) : Type 0 where
   pub ordered : s.lo ≤ℤ s.hi

@@ -1,6 +1,8 @@
 ghost use Rattle.std.specs.Prelude.{◌≡◌, ◌≤ℤ◌, ◌↔◌, IsTrue};
-ghost use Rattle.sa_interval.specs.Span.{Span, IsInterval, IsLeast, IsPart, cut, low_limit, high_limit};
-ghost use Rattle.sa_interval.specs.Rows.{Sums, Differences, sum_of, difference_of, join_of, meet_of, is_part};
+ghost use Rattle.sa_interval.specs.Span.{Span, IsInterval, IsPart, low_limit, high_limit};
+ghost use Rattle.sa_interval.specs.Rows.{join_of, meet_of, is_part};
+
+mod arithmetic;
 
 use std::marker::Model;
 
@@ -54,22 +56,6 @@ impl Interval {
         self.hi
     }
 
-    /// The least interval that holds the cut of each sum.
-    pub fn add(self, o: Interval) -> Interval
-        ensures row { result ≡ sum_of self o }
-        ensures least { IsLeast (Sums self o) result }
-    {
-        cut_between(self.lo + o.lo, self.hi + o.hi)
-    }
-
-    /// The least interval that holds the cut of each difference.
-    pub fn sub(self, o: Interval) -> Interval
-        ensures row { result ≡ difference_of self o }
-        ensures least { IsLeast (Differences self o) result }
-    {
-        cut_between(self.lo - o.hi, self.hi - o.lo)
-    }
-
     /// The least interval that both lie in.
     pub fn join(self, o: Interval) -> Interval
         ensures { result ≡ join_of self o }
@@ -100,22 +86,4 @@ impl Interval {
     {
         o.lo <= self.lo && self.hi <= o.hi
     }
-}
-
-/// From the cut of `lo` to the cut of `hi`.
-fn cut_between(lo: i128, hi: i128) -> Interval
-    requires { lo ≤ℤ hi }
-    ensures { result ≡ record { lo = cut lo; hi = cut hi } }
-{
-    Interval {
-        lo: limited(lo),
-        hi: limited(hi),
-    }
-}
-
-/// The number, or the limit that it lies past.
-fn limited(z: i128) -> i128
-    ensures { result ≡ cut z }
-{
-    z.min(LIMIT).max(-LIMIT)
 }
