@@ -5,5 +5,6 @@ pub mod Products
 pub mod Quotients
 pub mod Remainders
 pub mod Rising
+pub mod Shifts
 pub mod Stops
 pub mod Sums

@@ -3,6 +3,7 @@ ghost use Rattle.sa_interval.specs.Span.{Span, IsInterval, IsPart, low_limit, hi
 ghost use Rattle.sa_interval.specs.Rows.{join_of, meet_of, is_part};
 
 mod arithmetic;
+mod bits;
 
 use std::marker::Model;
 

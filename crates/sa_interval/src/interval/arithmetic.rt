@@ -150,7 +150,7 @@ fn cut_between(lo: i128, hi: i128) -> Interval
 }
 
 /// The least interval that holds four numbers.
-fn hull(p: i128, q: i128, r: i128, s: i128) -> Interval
+pub(super) fn hull(p: i128, q: i128, r: i128, s: i128) -> Interval
     requires p { IsBound p }
     requires q { IsBound q }
     requires r { IsBound r }
@@ -175,7 +175,7 @@ fn join_some(a: Option<Interval>, b: Option<Interval>) -> Option<Interval>
 }
 
 /// The cut of a product. A product that is past an `i128` is past the limit too.
-fn product(x: i128, y: i128) -> i128
+pub(super) fn product(x: i128, y: i128) -> i128
     ensures value { result ≡ cut (x *ℤ y) }
     ensures bound { IsBound result }
 {
