@@ -1,3 +1,5 @@
+pub mod BitOps
+pub mod Complements
 pub mod Hulls
 pub mod Least
 pub mod Members
@@ -8,3 +10,5 @@ pub mod Rising
 pub mod Shifts
 pub mod Stops
 pub mod Sums
+pub mod TypeRanges
+pub mod Wraps

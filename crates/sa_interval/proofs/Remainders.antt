@@ -1,12 +1,12 @@
 -- Remainders lie in their row.
-use Rattle.std.proofs.Common.{◌≡◌, ◌≢◌, ℤ, pos, neg_ℤ, ◌≤ℤ◌, int_rem, true, false, ◌&&◌, cond, arith, refl}
+use Rattle.std.proofs.Common.{◌≡◌, ◌≢◌, ℤ, pos, neg_ℤ, ◌≤ℤ◌, int_rem, true, false, cond, arith, refl}
 use Rattle.std.specs.Int.{int_max, int_min}
 use Rattle.std.specs.Int.RustNames.{int_le}
-use Rattle.std.specs.Ordering.{int_eq}
 use Rattle.std.proofs.lemmas.Int.{ints, clamps, by_lt_z}
 use Rattle.sa_interval.specs.Span.{Span, Within, IsBound, IsInterval, Holds, cut}
-use Rattle.sa_interval.specs.Rows.{Remainders, single, is_single, is_zero, largest_remainder, remainders_up_to, remainders_of}
+use Rattle.sa_interval.specs.Rows.{Remainders, single, are_single, is_zero, largest_remainder, remainders_up_to, remainders_of}
 use Rattle.sa_numbers.proofs.Order.{le_to, above_to}
+use Rattle.sa_interval.proofs.Least.{are_points}
 use Rattle.sa_numbers.proofs.Cut.{cut-inside}
 use Rattle.sa_numbers.proofs.Remainders.{remainder_of_above, remainder_of_below, remainder-size}
 
@@ -32,9 +32,6 @@ largest_not_below b order nonzero =
     absurd (nonzero (λ i. record { lo = lo i; hi = hi i })))
     (λ rest. rest)
 
-same_single : (a : Span) (x : ℤ) → int_eq a.lo a.hi ≡ true → Within a x → x ≡ a.lo
-same_single a x e w = let same : a.lo ≡ a.hi = grind (arith, ints) in omega (arith, ints, w.above, w.below)
-
 -- a remainder is no greater in size than its dividend
 range : (x y : ℤ) → (int_min x (pos 0) ≤ℤ int_rem x y) × (int_rem x y ≤ℤ int_max x (pos 0))
 range x y =
@@ -59,21 +56,19 @@ up_to_holds a b i most z (x, y, in_a, in_b, nonzero, is) =
       below = omega (arith, ints, clamps, size.1, r.1, in_a.below);
     })
 
-single_holds : (a b : Span) → IsInterval a → is_single a ≡ true → is_single b ≡ true → Holds (Remainders a b) (single (int_rem a.lo b.lo))
-single_holds a b i p q z (x, y, in_a, in_b, nonzero, is) =
+single_holds : (a b : Span) → IsInterval a → are_single a b ≡ true → Holds (Remainders a b) (single (int_rem a.lo b.lo))
+single_holds a b i points z (x, y, in_a, in_b, nonzero, is) =
     let bound = small a x y i in_a in
     let keeps : cut z ≡ int_rem x y = rw is (cut-inside (int_rem x y) bound.low bound.high) in
-    rw (keeps, same_single a x p in_a, same_single b y q in_b) (record { above = omega (arith, ints); below = omega (arith, ints) })
+    let same = are_points a b x y points in_a in_b in
+    rw (keeps, same.0, same.1) (record { above = omega (arith, ints); below = omega (arith, ints) })
 
 pub remainders_hold : (a b : Span) → IsInterval a → b.lo ≤ℤ b.hi → b ≢ single (pos 0) → Holds (Remainders a b) (remainders_of a b)
 remainders_hold a b i order nonzero =
-    let rest = up_to_holds a b i (largest_not_below b order nonzero) in
-    elim (is_single a) as (λ p. is_single a ≡ p → Holds (Remainders a b) (cond (p && is_single b) (single (int_rem a.lo b.lo)) (remainders_up_to (largest_remainder b) a))) [
-      | true ↦ λ p. elim (is_single b) as (λ q. is_single b ≡ q → Holds (Remainders a b) (cond q (single (int_rem a.lo b.lo)) (remainders_up_to (largest_remainder b) a))) [
-        | true ↦ λ q. single_holds a b i p q
-        | false ↦ λ _. rest
-      ] refl
-      | false ↦ λ _. rest
+    let up_to = remainders_up_to (largest_remainder b) a in
+    elim (are_single a b) as (λ p. are_single a b ≡ p → Holds (Remainders a b) (cond p (single (int_rem a.lo b.lo)) up_to)) [
+      | true ↦ λ points. single_holds a b i points
+      | false ↦ λ _. up_to_holds a b i (largest_not_below b order nonzero)
     ] refl
 
 pub up_to_is_interval : (a : Span) (most : ℤ) → IsInterval a → pos 0 ≤ℤ most → IsInterval (record { lo = int_max (int_min a.lo (pos 0)) (neg_ℤ most); hi = int_min (int_max a.hi (pos 0)) most })

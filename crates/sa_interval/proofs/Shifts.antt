@@ -1,9 +1,8 @@
 -- Shifts are least.
-use Rattle.std.proofs.Common.{◌≡◌, ℕ, ◌+◌, ◌^◌, ◌<◌, ◌≤◌, ℤ, pos, negsuc, ◌≤ℤ◌, ◌*ℤ◌, unsigned_abs, arith, refl, ap, sym}
+use Rattle.std.proofs.Common.{◌≡◌, ℕ, ◌^◌, ◌≤◌, ℤ, pos, negsuc, ◌≤ℤ◌, ◌*ℤ◌, unsigned_abs, arith, refl}
 use Rattle.std.proofs.Math.IntN.{*ℤ_comm}
 use Rattle.std.proofs.lemmas.Int.{ints}
-use Rattle.std.specs.Int.{int_shr}
-use Rattle.sa_interval.specs.Span.{Span, Within, IsPart, IsBound, IsInterval, IsLeast}
+use Rattle.sa_interval.specs.Span.{Span, Within, IsPart, IsInterval, IsLeast}
 use Rattle.sa_interval.specs.BitRows.{LeftShifts, RightShifts, left_shift_of, right_shift_of}
 use Rattle.sa_interval.proofs.Hulls.{least_hull_inside}
 use Rattle.sa_interval.proofs.Least.{least_between, interval_between, within_lo, within_hi}
@@ -51,8 +50,8 @@ least_left_shift a counts i up order part =
     (a.lo, unsigned_abs counts.lo, within_lo a i.ordered, least_count counts order part, refl)
     (a.hi, unsigned_abs counts.hi, within_hi a i.ordered, most_count counts order part, refl)
     (λ z (x, n, in_a, in_counts, is).
-      let between = count_between counts n part order in_counts in
-      rw is (left_rises a.lo x (unsigned_abs counts.lo) n up in_a.above between.0, left_rises x a.hi n (unsigned_abs counts.hi) (≤ℤ_trans (pos 0) a.lo x up in_a.above) in_a.below between.1))
+    let between = count_between counts n part order in_counts in
+    rw is (left_rises a.lo x (unsigned_abs counts.lo) n up in_a.above between.0, left_rises x a.hi n (unsigned_abs counts.hi) (≤ℤ_trans (pos 0) a.lo x up in_a.above) in_a.below between.1))
 
 pub least_right_shift : (a counts : Span) → IsInterval a → counts.lo ≤ℤ counts.hi → IsPart counts counts_range → IsLeast (RightShifts a counts) (right_shift_of a counts)
 least_right_shift a counts i order part =
@@ -66,8 +65,8 @@ least_right_shift a counts i order part =
     (a.hi, unsigned_abs counts.lo, ah, cl, refl)
     (a.hi, unsigned_abs counts.hi, ah, ch, refl)
     (λ z (x, n, in_a, in_counts, is).
-      let size = shift-size x n (2 ^ 100) (omega (arith, ints, i.low, in_a.above)) (omega (arith, ints, i.high, in_a.below)) in
-      rw is (record { low = size.0; high = size.1 }))
+    let size = shift-size x n (2 ^ 100) (omega (arith, ints, i.low, in_a.above)) (omega (arith, ints, i.high, in_a.below)) in
+    rw is (record { low = size.0; high = size.1 }))
     (λ z (x, n, in_a, in_counts, is).
-      let between = count_between counts n part order in_counts in
-      rw is (shift-corners a.lo a.hi x (unsigned_abs counts.lo) (unsigned_abs counts.hi) n in_a.above in_a.below between.0 between.1))
+    let between = count_between counts n part order in_counts in
+    rw is (shift-corners a.lo a.hi x (unsigned_abs counts.lo) (unsigned_abs counts.hi) n in_a.above in_a.below between.0 between.1))

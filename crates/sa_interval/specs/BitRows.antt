@@ -1,6 +1,6 @@
 -- What each call on bits gives, and the results that it stands for.
 -- Numbers are read in two's complement. 128 bits hold every number of C's types, so the operations are taken at that width. The rows are this project's own choice among sound ones.
-use Rattle.std.specs.Prelude.{ℕ, ◌^◌, ◌-◌, ℤ, pos, negsuc, ◌≡◌, ◌-ℤ◌, ◌*ℤ◌, unsigned_abs, Bool, ◌&&◌, ◌||◌, not, if◌then◌else◌}
+use Rattle.std.specs.Prelude.{ℕ, ◌^◌, ℤ, pos, negsuc, ◌≡◌, ◌-ℤ◌, ◌*ℤ◌, unsigned_abs, Bool, ◌&&◌, ◌||◌, not, if◌then◌else◌}
 use Rattle.std.specs.Int.{w128, int_max, int_min, int_bit_and, int_bit_or, int_bit_xor, int_shr, int_rem_euclid}
 use Rattle.std.specs.Int.RustNames.{int_le}
 use Rattle.std.specs.Ordering.{int_eq}

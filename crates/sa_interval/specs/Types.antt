@@ -1,5 +1,5 @@
 -- The ranges of C's whole-number types in two's complement (ISO C 6.2.6.2).
-use Rattle.std.specs.Prelude.{ℕ, ◌^◌, ◌-◌, ◌==◌, ℤ, pos, neg_ℤ, ◌≡◌, ◌⊎◌, Bool, ◌||◌, IsTrue}
+use Rattle.std.specs.Prelude.{ℕ, ◌^◌, ◌-◌, ◌==◌, pos, neg_ℤ, ◌≡◌, ◌⊎◌, Bool, ◌||◌, IsTrue}
 use Rattle.sa_interval.specs.Span.{Span}
 
 -- a type has this many bits
