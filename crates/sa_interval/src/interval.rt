@@ -4,6 +4,8 @@ ghost use Rattle.sa_interval.specs.Rows.{join_of, meet_of, is_part};
 
 mod arithmetic;
 mod bits;
+#[cfg(test)]
+mod tests;
 
 use std::marker::Model;
 

@@ -107,7 +107,10 @@ impl Interval {
             return single(self.lo & o.lo);
         }
         match (self.is_not_negative(), o.is_not_negative()) {
-            (true, true) => from_zero(self.hi.min(o.hi)),
+            (true, true) => Interval {
+                lo: 0,
+                hi: self.hi.min(o.hi),
+            },
             (true, false) => from_zero(self.hi),
             (false, true) => from_zero(o.hi),
             (false, false) => full,
