@@ -4,6 +4,7 @@
 //! It stands on nothing. The layers above use that a `Text` is its list of bytes, that a `Path` is its
 //! list of call positions, and that each number, word and code is the one of its table in `specs/`.
 //! A table has one place: a new code, kind or limit is added to the enum and to its definition.
+//! `OutOfMemory` is want of memory, the one answer that no clause ties to anything.
 #![tactic(auto)]
 
 mod alarm;
@@ -15,9 +16,6 @@ mod refusal;
 mod status;
 mod text;
 
-/// Want of memory, the one answer that no clause ties to anything.
-pub use std::alloc::AllocError as OutOfMemory;
-
 pub use alarm::{Alarm, Kind};
 pub use limit::Limit;
 pub use num::Num;
@@ -25,4 +23,5 @@ pub use path::Path;
 pub use pos::Pos;
 pub use refusal::{Code, Refusal};
 pub use status::Status;
+pub use std::alloc::AllocError as OutOfMemory;
 pub use text::Text;
