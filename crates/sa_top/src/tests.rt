@@ -1,0 +1,100 @@
+//! The worked cases of the first path, from outside: what a source is answered with.
+
+use crate::run_alone;
+use sa_base::{Status, Text};
+use sa_outside::{MemShelf, MemSink, SureSink};
+use std::alloc::{AllocError, Global};
+use std::test::Fail;
+
+const CLOCK_ALONE: &str = "void main(void) { while (1) { __ASTREE_wait_for_clock(()); } }";
+const CLOCK_REPORT: &str = "loop 1:19 passes 5\n  clock in [0, 3600000]\nalarms 0\n";
+
+fn words(alloc: Global, words: &[&str]) -> Result<Vec<String>, AllocError> {
+    let mut list = Vec::new(alloc);
+    for word in words {
+        list.push(String::from_str(alloc, word)?)?;
+    }
+    Ok(list)
+}
+
+/// A shelf with one file, `a.c`.
+fn shelf(alloc: Global, source: &[u8]) -> Result<MemShelf, AllocError> {
+    let mut files = Vec::new(alloc);
+    files.push((Text::of(alloc, "a.c")?, Vec::from_slice(alloc, source)?))?;
+    Ok(MemShelf::new(files, Vec::new(alloc)))
+}
+
+#[test]
+fn what_a_source_is_answered_with(rt: HostRuntime) -> Result<(), Fail> {
+    let alloc = rt.alloc();
+    let cases = [
+        (CLOCK_ALONE, Status::Clean, CLOCK_REPORT),
+        (
+            "int x;\nvoid main(void) {\n  while (1) {\n    x = x + 1;\n    __ASTREE_wait_for_clock(());\n  }\n}\n",
+            Status::Alarmed,
+            "loop 3:3 passes 9\n  clock in [0, 3600000]\n  x in [0, 2147483647]\nalarm 4:11 overflow\nalarms 1\n",
+        ),
+        (
+            "int x; void main(void) { x = 1; while (1) { __ASTREE_wait_for_clock(()); } }",
+            Status::SourceRefused,
+            "source refused U1 1:26\n",
+        ),
+        ("", Status::SourceRefused, "source refused U1 1:1\n"),
+    ];
+    for (source, status, text) in cases {
+        let mut out = SureSink::new(alloc, 200)?;
+        let mut files = shelf(alloc, source.as_bytes())?;
+        let given = words(alloc, ["analyze", "a.c"].as_slice())?;
+        assert_eq!(rt; run_alone(alloc, &given, &mut files, &mut out), status);
+        assert_eq!(rt; out.bytes(), text.as_bytes());
+    }
+    Ok(())
+}
+
+#[test]
+fn what_words_and_faults_are_answered_with(rt: HostRuntime) -> Result<(), Fail> {
+    let alloc = rt.alloc();
+    let usage = "usage: sa MODE NAMES [--jobs N] [--json]\n";
+    let cases = [
+        (["analyze"].as_slice(), Status::Usage, usage),
+        (["analyse", "a.c"].as_slice(), Status::Usage, usage),
+        (["analyze", "b.c"].as_slice(), Status::ReadFault, ""),
+        (["analyze", "a.c"].as_slice(), Status::Clean, CLOCK_REPORT),
+    ];
+    for (given, status, text) in cases {
+        let mut out = SureSink::new(alloc, 52)?;
+        let mut files = shelf(alloc, CLOCK_ALONE.as_bytes())?;
+        let given = words(alloc, given)?;
+        assert_eq!(rt; run_alone(alloc, &given, &mut files, &mut out), status);
+        assert_eq!(rt; out.bytes(), text.as_bytes());
+    }
+    Ok(())
+}
+
+#[test]
+fn a_write_that_fails_leaves_a_prefix(rt: HostRuntime) -> Result<(), Fail> {
+    let alloc = rt.alloc();
+    let mut fails = Vec::new(alloc);
+    fails.push(3)?;
+    let mut out = MemSink::new(alloc, 64, 8, fails)?;
+    let given = words(alloc, ["analyze", "a.c"].as_slice())?;
+    let mut files = shelf(alloc, CLOCK_ALONE.as_bytes())?;
+    let status = run_alone(alloc, &given, &mut files, &mut out);
+    assert_eq!(rt; status, Status::WriteFault);
+    assert_eq!(rt; out.bytes(), "loop 1:19 passes".as_bytes());
+    Ok(())
+}
+
+#[test]
+fn a_source_above_the_limit(rt: HostRuntime) -> Result<(), Fail> {
+    let alloc = rt.alloc();
+    let mut source = Vec::new(alloc);
+    source.resize(4_194_305, b' ')?;
+    let mut out = SureSink::new(alloc, 52)?;
+    let given = words(alloc, ["analyze", "a.c"].as_slice())?;
+    let mut files = shelf(alloc, &source)?;
+    let status = run_alone(alloc, &given, &mut files, &mut out);
+    assert_eq!(rt; status, Status::Limit);
+    assert_eq!(rt; out.bytes(), "limit source 4194304\n".as_bytes());
+    Ok(())
+}
