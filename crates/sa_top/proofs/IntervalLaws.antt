@@ -100,7 +100,7 @@ links_cover cells store [] o some v h c = more_covers (InSpan o) some (some ++ [
 links_cover cells store (l ∷ ls) o some v h c =
     let first = link_alarms cells o l in
     let step = then_covers (InSpan o) (InSpan (next_span cells o l)) some first (some ++ first) v (λ x tape. link_value store x l tape) c
-        (λ a k. among_left a some first k) (λ a k. among_right a some first k) (λ x tape i. next_covers cells store o x l tape h i) in
+    (λ a k. among_left a some first k) (λ a k. among_right a some first k) (λ x tape i. next_covers cells store o x l tape h i) in
     more_covers (InSpan (links_span cells ls (next_span cells o l))) ((some ++ first) ++ links_alarms cells ls (next_span cells o l)) (some ++ (first ++ links_alarms cells ls (next_span cells o l))) _
     (λ a k. regroup a some first (links_alarms cells ls (next_span cells o l)) k)
     (links_cover cells store ls (next_span cells o l) (some ++ first) (then_value v (λ x tape. link_value store x l tape)) h step)

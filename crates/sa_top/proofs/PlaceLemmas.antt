@@ -30,9 +30,9 @@ tokens_at-placed p (b ∷ bs) h =
     elim (is_blank b bs) as (λ t. ArePlaced (cond t (tokens_at (pos_after p b) bs) (cond (is_word_byte b && begins_word bs) (longer p b (tokens_at (pos_after p b) bs)) (record { pos = p; bytes = b ∷ [] } ∷ tokens_at (pos_after p b) bs)))) [
       | true ↦ rest
       | false ↦ elim (is_word_byte b && begins_word bs) as (λ t. ArePlaced (cond t (longer p b (tokens_at (pos_after p b) bs)) (record { pos = p; bytes = b ∷ [] } ∷ tokens_at (pos_after p b) bs))) [
-          | true ↦ placed-longer p b (tokens_at (pos_after p b) bs) h rest
-          | false ↦ (h, rest)
-        ]
+        | true ↦ placed-longer p b (tokens_at (pos_after p b) bs) h rest
+        | false ↦ (h, rest)
+      ]
     ]
 
 placed-at : (ts : List Token) (i : ℕ) (t : Token) → ArePlaced ts → i < length ts → t ≡ get_or ts i t → IsPlace t.pos

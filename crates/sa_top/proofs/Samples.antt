@@ -21,13 +21,13 @@ counter = codes "int x;\nvoid main(void) {\n  while (1) {\n    x = x + 1;\n    _
 
 -- the counter is stable at the ninth pass, and may overflow at its `+`
 counter_found : option_map found_of (program_of counter) ≡ Some (record {
-    alarms = record { pos = record { line = 4; col = 11 }; kind = Overflow } ∷ [];
-    records = record {
-        loop = record { path = []; place = record { line = 3; col = 3 } };
-        passes = 9;
-        state = record { clock = record { lo = pos 0; hi = pos 3600000 }; cells = record { lo = pos 0; hi = pos 2147483647 } ∷ [] };
-      } ∷ [];
-  })
+  alarms = record { pos = record { line = 4; col = 11 }; kind = Overflow } ∷ [];
+  records = record {
+    loop = record { path = []; place = record { line = 3; col = 3 } };
+    passes = 9;
+    state = record { clock = record { lo = pos 0; hi = pos 3600000 }; cells = record { lo = pos 0; hi = pos 2147483647 } ∷ [] };
+  } ∷ [];
+})
 unfolding counter tokens_at literal_of index_from variable_of is_fresh spells declared links_of sum_of assign_of parts_of turn_of main_of unit_of program_of passes_from facts_of after_all found_all next_span links_span link_alarms links_alarms reference thresholds_of nearest_below nearest_above
 counter_found = refl
 

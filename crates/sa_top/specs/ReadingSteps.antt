@@ -2,7 +2,6 @@
 use Rattle.std.specs.Prelude.{ℕ, List, Option, Some, None, Vec}
 use Rattle.std.specs.Ordering.{nat_cmp}
 use Rattle.std.specs.Cmp.Lexicographic.{slice_cmp}
-
 use Rattle.std.specs.BTreeMap.{BTreeMap, get_by}
 use Rattle.sa_base.specs.declared.pos.Pos.{Pos}
 use Rattle.sa_top.specs.declared.token.Token.{Token}

@@ -245,6 +245,12 @@ pub fn widen(
 {
     Ok(Flat {
         clock: widened_clock(max_clock, a.clock, b.clock),
-        cells: widened_cells(alloc, pass, thresholds, a.cells.as_slice(), b.cells.as_slice())?,
+        cells: widened_cells(
+            alloc,
+            pass,
+            thresholds,
+            a.cells.as_slice(),
+            b.cells.as_slice(),
+        )?,
     })
 }

@@ -138,11 +138,7 @@ fn link(scope: &Scope, sign: &Token, operand: &Token) -> Option<Link>
 }
 
 /// Signs and operands in turn.
-fn links(
-    alloc: Global,
-    scope: &Scope,
-    tokens: &[Token],
-) -> Result<Option<Items<Link>>, OutOfMemory>
+fn links(alloc: Global, scope: &Scope, tokens: &[Token]) -> Result<Option<Items<Link>>, OutOfMemory>
     ensures { IfOk result (λ ls. ls ≡ links_of scope.now tokens.now) }
 {
     let mut found = Items::new(alloc);
@@ -197,11 +193,7 @@ fn assigned(
 
 /// A name, `=`, and a sum.
 #[tactic(auto, unfolding(crate::specs::Reading::assign_of))]
-pub fn assign(
-    alloc: Global,
-    scope: &Scope,
-    tokens: &[Token],
-) -> Result<Option<Stmt>, OutOfMemory>
+pub fn assign(alloc: Global, scope: &Scope, tokens: &[Token]) -> Result<Option<Stmt>, OutOfMemory>
     ensures { IfOk result (λ s. s ≡ assign_of scope.now tokens.now) }
 {
     match tokens {

@@ -30,7 +30,12 @@ pub struct Analysis {
 }
 
 /// One turn of the clock loop in iteration mode: the statements, and then the wait. False where no turn ends.
-fn turn(program: &Program, env: &mut Flat, max_clock: u64, alarms: &mut Vec<Alarm>) -> Result<bool, OutOfMemory>
+fn turn(
+    program: &Program,
+    env: &mut Flat,
+    max_clock: u64,
+    alarms: &mut Vec<Alarm>,
+) -> Result<bool, OutOfMemory>
     requires { IsFair (pos max_clock) env.old }
     ensures env { IfOk result (λ alive. clock_turn_of (intervals (length program.now.cells) (pos max_clock)) program.now env.old ≡ alive_env alive env.new) }
     ensures fair { IsFair (pos max_clock) env.new }
@@ -112,7 +117,12 @@ fn clock_facts(alloc: Global, program: &Program, max_clock: u64) -> Result<LoopF
 }
 
 /// The alarms of one more turn from the stable state, in checking mode.
-fn checked(alloc: Global, program: &Program, facts: &LoopFacts, max_clock: u64) -> Result<Vec<Alarm>, OutOfMemory>
+fn checked(
+    alloc: Global,
+    program: &Program,
+    facts: &LoopFacts,
+    max_clock: u64,
+) -> Result<Vec<Alarm>, OutOfMemory>
     requires { IsFair (pos max_clock) facts.now.state }
     ensures { IfOk result (λ alarms. alarms.items ≡ straight_alarms program.now.turn (Some facts.now.state)) }
 {

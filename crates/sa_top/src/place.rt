@@ -126,7 +126,11 @@ fn declaration(alloc: Global, scope: &mut Scope, look: &mut Look) -> Result<(), 
         look.step();
     }
     if !look.is("int") {
-        let at = if is_among(look.word(), &TYPE_WORDS) { first } else { look.at };
+        let at = if is_among(look.word(), &TYPE_WORDS) {
+            first
+        } else {
+            look.at
+        };
         return Err(Stop::At(at));
     }
     look.step();
@@ -304,11 +308,7 @@ fn end_of(source: &[u8]) -> Pos
 
 /// The place of the first form, in text order, that isn't built: that of its first token, or of its mark where the form
 /// is an operator or an initialiser; or the place after the last byte, where the text ends too early.
-pub fn unbuilt_at(
-    alloc: Global,
-    source: &[u8],
-    tokens: &[Token],
-) -> Result<Pos, OutOfMemory>
+pub fn unbuilt_at(alloc: Global, source: &[u8], tokens: &[Token]) -> Result<Pos, OutOfMemory>
     requires size { length source.now ≤ 4194304 }
     requires tokens { tokens.now ≡ tokens_of source.now }
     ensures { IfOk result IsPlace }

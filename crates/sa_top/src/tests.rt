@@ -7,6 +7,7 @@ use std::alloc::{AllocError, Global};
 use std::test::Fail;
 
 const CLOCK_ALONE: &str = "void main(void) { while (1) { __ASTREE_wait_for_clock(()); } }";
+
 const CLOCK_REPORT: &str = "loop 1:19 passes 5\n  clock in [0, 3600000]\nalarms 0\n";
 
 fn words(alloc: Global, words: &[&str]) -> Result<Vec<String>, AllocError> {

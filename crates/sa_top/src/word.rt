@@ -100,9 +100,7 @@ fn is_decimal(word: &[u8]) -> bool
 {
     match word {
         [] => false,
-        [d, ds @ ..] => {
-            is_digit(*d) && are_digits(ds) && has_no_zero_ahead(*d, ds)
-        }
+        [d, ds @ ..] => { is_digit(*d) && are_digits(ds) && has_no_zero_ahead(*d, ds) }
     }
 }
 
@@ -137,5 +135,9 @@ fn int_value(digits: &[u8]) -> Option<u32>
 pub fn literal(word: &[u8]) -> Option<u32>
     ensures { result ≡ literal_of word.now }
 {
-    if is_decimal(word) { int_value(word) } else { None }
+    if is_decimal(word) {
+        int_value(word)
+    } else {
+        None
+    }
 }

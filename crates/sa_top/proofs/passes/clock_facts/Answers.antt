@@ -38,7 +38,7 @@ loop-pass-preserved c =
     let left : 32 - (p + 1) ≡ 31 - p = omega arith in
     record {
       value = rw (left, more) (sym (passes-more n m (clock_turn_of (intervals n m) c.args.program.now) (top_of n (whole_clock m)) (initial_of n) (31 - p) (32 - p) p c.loop-pass.state c.in_ok-joined.joined (omega arith) step below)
-        ∙ c.loop-pass.invariant.value);
+          ∙ c.loop-pass.invariant.value);
       fair = search rules;
     }
 

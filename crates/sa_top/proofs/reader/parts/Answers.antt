@@ -13,13 +13,13 @@ pub loop-at-preserved : goal.loop-at-preserved
 loop-at-preserved c =
     elim c.if-is.branch [
       | then-is+in_ok-push w ↦ record {
-          within = omega arith;
-          found = rw (w.found-is, w.from-is) (parts-cut c.args.tokens.now _ _ c.loop-at.from c.loop-at.at c.index-tokens-at.result _ _ c.loop-at-test.true c.index-tokens-at.is (sym c.is.ensures ∙ w.if-is.true) refl w.in_ok-push.ensures.items c.loop-at.invariant.found);
-        }
+        within = omega arith;
+        found = rw (w.found-is, w.from-is) (parts-cut c.args.tokens.now _ _ c.loop-at.from c.loop-at.at c.index-tokens-at.result _ _ c.loop-at-test.true c.index-tokens-at.is (sym c.is.ensures ∙ w.if-is.true) refl w.in_ok-push.ensures.items c.loop-at.invariant.found);
+      }
       | else-is w ↦ record {
-          within = omega arith;
-          found = rw (w.found-is, w.from-is) (parts-pass c.args.tokens.now _ c.loop-at.from c.loop-at.at c.index-tokens-at.result _ c.loop-at.invariant.within c.loop-at-test.true c.index-tokens-at.is (sym c.is.ensures ∙ w.if-is.false) c.loop-at.invariant.found);
-        }
+        within = omega arith;
+        found = rw (w.found-is, w.from-is) (parts-pass c.args.tokens.now _ c.loop-at.from c.loop-at.at c.index-tokens-at.result _ c.loop-at.invariant.within c.loop-at-test.true c.index-tokens-at.is (sym c.is.ensures ∙ w.if-is.false) c.loop-at.invariant.found);
+      }
     ]
 
 pub returns : goal.returns
