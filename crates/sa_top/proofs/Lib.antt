@@ -9,6 +9,7 @@ pub mod WordLemmas
 pub mod FormLemmas
 pub mod ReaderLemmas
 pub mod PlaceLemmas
+pub mod GrammarLaws
 pub mod ShownLemmas
 pub mod ReportLemmas
 pub mod AlarmLemmas

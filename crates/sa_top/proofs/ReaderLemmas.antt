@@ -25,7 +25,7 @@ begin_parts-more : (xs : List Token) (t : Token) (ps : List (List Token)) → be
 begin_parts-more xs t [] = refl
 begin_parts-more xs t (p ∷ ps) = ap (λ (q : List Token). q ∷ ps) (sym (append_assoc xs (t ∷ []) p))
 
-begin_parts-none : (ts : List Token) → begin_parts [] (parts_of ts) ≡ parts_of ts
+pub begin_parts-none : (ts : List Token) → begin_parts [] (parts_of ts) ≡ parts_of ts
 unfolding parts_of
 begin_parts-none [] = refl
 begin_parts-none (t ∷ ts) =

@@ -4,6 +4,7 @@ ghost use Rattle.std.specs.Prelude.{◌≡◌, ◌≤◌, List, [], ◌∷◌, S
 ghost use Rattle.sa_top.specs.Tokens.{tokens_of};
 ghost use Rattle.sa_top.specs.Reading.{no_names, head_words, wait_words, end_words, spells, parts_of, is_end, turn_of, place_of, program_with, main_of, unit_of};
 ghost use Rattle.sa_top.specs.ReadingOf.{IsReading};
+ghost use Rattle.sa_top.specs.Grammar.{ReadsUnits};
 
 use crate::form::{assign, declare, is, spells};
 use crate::place::unbuilt_at;
@@ -147,4 +148,10 @@ pub fn read_source(alloc: Global, source: &[u8]) -> Result<Reading, OutOfMemory>
         Some(program) => Ok(Reading::Built(program)),
         None => Ok(Reading::Unbuilt(unbuilt_at(alloc, source, &tokens)?)),
     }
+}
+
+/// What is read as a program is a unit by the grammar, and each unit is read as its program.
+pub fn reads_units()
+    ensures { ReadsUnits }
+{
 }
