@@ -41,12 +41,12 @@ far_ends = refl
 
 -- the counter is visited with 0, 1 and 2, a tick apart, and is still going
 counter_visits : option_map (λ p. execution p max_clock [] 3) (program_of counter) ≡ Some (record {
-    visits =
-        record { loop = record { path = []; place = record { line = 3; col = 3 } }; store = pos 0 ∷ []; clock = pos 0 } ∷
-        record { loop = record { path = []; place = record { line = 3; col = 3 } }; store = pos 1 ∷ []; clock = pos 1 } ∷
-        record { loop = record { path = []; place = record { line = 3; col = 3 } }; store = pos 2 ∷ []; clock = pos 2 } ∷ [];
-    end = Going;
-  })
+  visits =
+      record { loop = record { path = []; place = record { line = 3; col = 3 } }; store = pos 0 ∷ []; clock = pos 0 } ∷
+      record { loop = record { path = []; place = record { line = 3; col = 3 } }; store = pos 1 ∷ []; clock = pos 1 } ∷
+      record { loop = record { path = []; place = record { line = 3; col = 3 } }; store = pos 2 ∷ []; clock = pos 2 } ∷ [];
+  end = Going;
+})
 unfolding counter tokens_at literal_of index_from variable_of is_fresh spells declared links_of sum_of assign_of parts_of turn_of main_of unit_of program_of links_value run_all turns execution
 counter_visits = refl
 

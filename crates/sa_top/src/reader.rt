@@ -153,5 +153,4 @@ pub fn read_source(alloc: Global, source: &[u8]) -> Result<Reading, OutOfMemory>
 /// What is read as a program is a unit by the grammar, and each unit is read as its program.
 pub fn reads_units()
     ensures { ReadsUnits }
-{
-}
+{}

@@ -4,6 +4,7 @@ ghost use Rattle.std.specs.Prelude.{◌≡◌, ◌≢◌, ◌≤◌, map, string
 ghost use Rattle.sa_base.specs.declared.status.Status.TheVariants.{ReadFault, WriteFault};
 ghost use Rattle.sa_outside.specs.Causes.{Rose};
 ghost use Rattle.sa_top.specs.Answer.{name_of, HasText};
+ghost use Rattle.sa_top.specs.Grammar.{ReadsUnits};
 ghost use Rattle.sa_top.specs.Sound.{Sound, Short};
 ghost use Rattle.sa_top.specs.Top.{Answers, IsMissing, UsageHolds, Finished};
 
@@ -40,6 +41,9 @@ pub fn run_alone<H: Shelf, K: Sink>(
     // passes.
     ensures sound { Sound }
     ensures short { Short }
+
+    // A source is read as a program exactly where its tokens are a unit of the grammar.
+    ensures grammar { ReadsUnits }
 {
     match reply_to(alloc, words, shelf) {
         Ok(reply) => finish(reply, out),
@@ -68,6 +72,7 @@ pub fn run<R: Threads + Wait + Sync, H: Shelf, K: Sink, G: Gate + Sync>(
 
     ensures sound { Sound }
     ensures short { Short }
+    ensures grammar { ReadsUnits }
 {
     run_alone(alloc, words, shelf, out)
 }

@@ -1,3 +1,4 @@
+use Rattle.sa_top.proofs.GrammarLaws.{reads_units}
 use Rattle.sa_top.proofs.SoundLaws as laws
 use Rattle.sa_top.proofs.OutputLemmas.{unread-answers, starved-answers}
 use Rattle.sa_top.proofs.top.run_alone.Goals as goal
@@ -25,3 +26,12 @@ returns-in-Err-NoMemory-clause-sound g c = laws.sound
 
 pub returns-in-Err-NoMemory-clause-short : goal.returns-in-Err-NoMemory-clause-short
 returns-in-Err-NoMemory-clause-short g c = laws.short
+
+pub returns-in-Ok-clause-grammar : goal.returns-in-Ok-clause-grammar
+returns-in-Ok-clause-grammar g c = reads_units
+
+pub returns-in-Err-Unread-clause-grammar : goal.returns-in-Err-Unread-clause-grammar
+returns-in-Err-Unread-clause-grammar g c = reads_units
+
+pub returns-in-Err-NoMemory-clause-grammar : goal.returns-in-Err-NoMemory-clause-grammar
+returns-in-Err-NoMemory-clause-grammar g c = reads_units
