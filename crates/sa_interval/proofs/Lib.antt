@@ -7,6 +7,7 @@ pub mod Products
 pub mod Quotients
 pub mod Remainders
 pub mod Rising
+mod Sample
 pub mod Shifts
 pub mod Stops
 pub mod Sums

@@ -13,7 +13,7 @@ use Rattle.std.proofs.lemmas.List.Elements.{All-from_recursion, All-contains}
 use Rattle.std.proofs.lemmas.List.Kept.{IsStrictlySortedBy-dedup, Contains-dedup, Contains-from_dedup}
 use Rattle.std.proofs.lemmas.List.Sorted.{Contains-permutation, IsPermutation-sym}
 use Rattle.std.proofs.lemmas.Map.Keys.{Less-from_sorted}
-use Rattle.sa_interval.specs.Widening.{placed, rising}
+use Rattle.sa_interval.specs.Widening.{placed, rising, IsRisingOf}
 use Rattle.sa_interval.proofs.Members.{Contains-head, Contains-tail, Contains-cons_cases}
 
 abbrev IsRising : List ℤ → Type 0
@@ -63,7 +63,7 @@ rising_placed z (t ∷ ts) s =
       ] refl
     ] refl
 
-pub rising_rises : (zs : List ℤ) → IsStrictlySortedBy int_cmp (rising zs)
+rising_rises : (zs : List ℤ) → IsStrictlySortedBy int_cmp (rising zs)
 unfolding IsStrictlySortedBy
 rising_rises [] = tt
 rising_rises (z ∷ zs) = rising_placed z (rising zs) (rising_rises zs)
@@ -107,7 +107,7 @@ placed_only z (t ∷ ts) x held =
       ]
     ] held
 
-pub Contains-rising : (zs : List ℤ) (x : ℤ) → Contains zs x → Contains (rising zs) x
+Contains-rising : (zs : List ℤ) (x : ℤ) → Contains zs x → Contains (rising zs) x
 Contains-rising [] x h = h
 Contains-rising (z ∷ zs) x h =
     elim (Contains-cons_cases z x zs h) [
@@ -115,13 +115,16 @@ Contains-rising (z ∷ zs) x h =
       | inr k ↦ placed_keeps z (rising zs) x (Contains-rising zs x k)
     ]
 
-pub Contains-from_rising : (zs : List ℤ) (x : ℤ) → Contains (rising zs) x → Contains zs x
+Contains-from_rising : (zs : List ℤ) (x : ℤ) → Contains (rising zs) x → Contains zs x
 Contains-from_rising [] x h = h
 Contains-from_rising (z ∷ zs) x h =
     elim (placed_only z (rising zs) x h) [
       | inl e ↦ (0, omega arith, e)
       | inr k ↦ Contains-tail z x zs (Contains-from_rising zs x k)
     ]
+
+pub rising_is : (zs : List ℤ) → IsRisingOf zs (rising zs)
+rising_is zs = record { rises = rising_rises zs; keeps = Contains-rising zs; adds_none = Contains-from_rising zs }
 
 -- what stands in the rest of a strictly rising list is above its head
 above_head : (x z : ℤ) (xs : List ℤ) → AllAbove x xs → Contains xs z → x <ℤ z

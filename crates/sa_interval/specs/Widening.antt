@@ -4,6 +4,8 @@ use Rattle.std.specs.Prelude.{ℕ, ◌^◌, ◌-◌, ℤ, pos, negsuc, neg_ℤ, 
 use Rattle.std.specs.Int.{int_max, int_min}
 use Rattle.std.specs.Int.RustNames.{int_le, int_lt}
 use Rattle.std.specs.List.{flat_map}
+use Rattle.std.specs.List.Sorted.{IsStrictlySortedBy}
+use Rattle.std.specs.Ordering.{int_cmp}
 use Rattle.sa_interval.specs.Span.{Span, IsPart}
 
 -- the ends of C's types, and the numbers next to zero; `negsuc n` is -n - 1
@@ -26,9 +28,18 @@ abbrev pub rising : List ℤ → List ℤ
 rising [] = []
 rising (z ∷ zs) = placed z (rising zs)
 
--- the thresholds of a program that compares with these literals
+-- the fixed thresholds, and those of the literals that a program compares with
+abbrev pub candidates : List ℕ → List ℤ
+candidates literals = fixed_thresholds ++ flat_map both_signs literals
+
 unfoldable pub thresholds_of : List ℕ → List ℤ
-thresholds_of literals = rising (fixed_thresholds ++ flat_map both_signs literals)
+thresholds_of literals = rising (candidates literals)
+
+-- the same by what it is: strictly rising, with the numbers of the list and no others
+pub record IsRisingOf (zs ts : List ℤ) : Type 0 where
+  pub rises : IsStrictlySortedBy int_cmp ts
+  pub keeps : (z : ℤ) → Contains zs z → Contains ts z
+  pub adds_none : (z : ℤ) → Contains ts z → Contains zs z
 
 -- the greatest of `least` and the thresholds at most z
 unfoldable pub nearest_below : List ℤ → ℤ → ℤ → ℤ

@@ -14,7 +14,7 @@ const LIMIT: i128 = 1 << 100;
 
 /// The numbers from `lo` to `hi`, at least one of them. A bound of size 2^100 means that there is no bound
 /// on that side (intervals: Cousot and Cousot 1977; the limit is this project's own).
-#[derive(Clone, Copy, Debug)]
+#[derive(Clone, Copy, Debug, PartialEq, Eq)]
 pub struct Interval {
     lo: i128,
     hi: i128,

@@ -2,7 +2,7 @@ ghost use Rattle.std.specs.Prelude.{◌≡◌, ◌≤ℤ◌, IfOk};
 ghost use Rattle.std.specs.List.Sorted.{IsStrictlySortedBy};
 ghost use Rattle.std.specs.Ordering.{int_cmp};
 ghost use Rattle.sa_interval.specs.Span.{IsPart, IsInterval};
-ghost use Rattle.sa_interval.specs.Widening.{thresholds_of, nearest_below, nearest_above, lowered, raised, widening_of, StopsNearest, IsBetween};
+ghost use Rattle.sa_interval.specs.Widening.{thresholds_of, candidates, IsRisingOf, nearest_below, nearest_above, lowered, raised, widening_of, StopsNearest, IsBetween};
 
 use crate::{Interval, OutOfMemory};
 use std::alloc::Global;
@@ -48,7 +48,8 @@ impl Model for Thresholds {
 impl Thresholds {
     /// The fixed thresholds, and `c` and `-c` for each literal `c` of `values`.
     pub fn make(alloc: Global, values: &[u64]) -> Result<Thresholds, OutOfMemory>
-        ensures { IfOk result (λ t. t ≡ thresholds_of values.now) }
+        ensures row { IfOk result (λ t. t ≡ thresholds_of values.now) }
+        ensures law { IfOk result (λ t. IsRisingOf (candidates values.now) t) }
     {
         let mut all = Vec::from_slice(alloc, &FIXED)?;
         for value in values {

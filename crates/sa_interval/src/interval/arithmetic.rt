@@ -41,7 +41,7 @@ impl Interval {
         ensures none { IsNone result ↔ (o ≡ single (pos 0)) }
         ensures least { IfSome result (λ q. IsLeast (Quotients self o) q) }
     {
-        // a look at the fields tells the proof that both are intervals
+        // to read a field of each tells the proof that both are intervals
         let (_, _) = (self.lo, o.lo);
         join_some(self.quotients_below_zero(o), self.quotients_above_zero(o))
     }
@@ -53,6 +53,7 @@ impl Interval {
         ensures none { IsNone result ↔ (o ≡ single (pos 0)) }
         ensures holds { IfSome result (λ r. Holds (Remainders self o) r) }
     {
+        // to read a field of each tells the proof that both are intervals
         let (_, _) = (self.lo, o.lo);
         if o.is_zero() {
             None
