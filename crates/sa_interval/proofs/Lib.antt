@@ -1,6 +1,7 @@
 pub mod BitOps
 pub mod Complements
 pub mod Hulls
+pub mod Lattice
 pub mod Least
 pub mod Members
 pub mod Products

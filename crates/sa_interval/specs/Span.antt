@@ -36,3 +36,19 @@ Holds results s = (z : ℤ) → results z → Within s (cut z)
 pub record IsLeast (results : ℤ → Type 0) (s : Span) : Type 0 where
   pub holds : Holds results s
   pub least : (t : Span) → Holds results t → IsPart s t
+
+-- the least span that both lie in
+pub record IsJoin (a b s : Span) : Type 0 where
+  pub first : IsPart a s
+  pub second : IsPart b s
+  pub least : (t : Span) → IsPart a t → IsPart b t → IsPart s t
+
+-- the span of the numbers that lie in both
+pub record IsMeet (a b s : Span) : Type 0 where
+  pub first : IsPart s a
+  pub second : IsPart s b
+  pub holds : (z : ℤ) → Within a z → Within b z → Within s z
+
+-- no number lies in both
+abbrev pub AreDisjoint : Span → Span → Type 0
+AreDisjoint a b = (z : ℤ) → Within a z → Within b z → ⊥

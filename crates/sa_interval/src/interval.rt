@@ -1,5 +1,5 @@
-ghost use Rattle.std.specs.Prelude.{◌≡◌, ◌≤ℤ◌, ◌↔◌, IsTrue};
-ghost use Rattle.sa_interval.specs.Span.{Span, IsInterval, IsPart, low_limit, high_limit};
+ghost use Rattle.std.specs.Prelude.{◌≡◌, ◌≤ℤ◌, ◌↔◌, IsTrue, MatchOption};
+ghost use Rattle.sa_interval.specs.Span.{Span, IsInterval, IsPart, IsJoin, IsMeet, AreDisjoint, low_limit, high_limit};
 ghost use Rattle.sa_interval.specs.Rows.{join_of, meet_of, is_part};
 
 mod arithmetic;
@@ -61,7 +61,8 @@ impl Interval {
 
     /// The least interval that both lie in.
     pub fn join(self, o: Interval) -> Interval
-        ensures { result ≡ join_of self o }
+        ensures row { result ≡ join_of self o }
+        ensures least { IsJoin self o result }
     {
         Interval {
             lo: self.lo.min(o.lo),
@@ -71,7 +72,8 @@ impl Interval {
 
     /// The numbers that lie in both; None exactly where there is none.
     pub fn meet(self, o: Interval) -> Option<Interval>
-        ensures { result ≡ meet_of self o }
+        ensures row { result ≡ meet_of self o }
+        ensures cases { MatchOption result (AreDisjoint self o) (λ m. IsMeet self o m) }
     {
         let lo = self.lo.max(o.lo);
         let hi = self.hi.min(o.hi);
