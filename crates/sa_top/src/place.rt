@@ -1,7 +1,8 @@
 //! The place of the first form, in text order, that isn't built. A source that is read as a program never comes here.
 
-ghost use Rattle.std.specs.Prelude.{◌≡◌, ◌≤◌, IfOk, fold, length};
+ghost use Rattle.std.specs.Prelude.{◌≡◌, ◌≤◌, None, IfOk, fold, length};
 ghost use Rattle.sa_top.specs.Tokens.{first_pos, pos_after, tokens_of};
+ghost use Rattle.sa_top.specs.Reading.{variable_of};
 ghost use Rattle.sa_top.specs.Answer.{IsPlace};
 
 use crate::program::Term;
@@ -122,7 +123,8 @@ impl<'a> Look<'a> {
 /// A declaration of an `int` or a `volatile int`.
 fn declaration(alloc: Global, scope: &mut Scope, look: &mut Look) -> Result<(), Stop> {
     let first = look.at;
-    if look.is("volatile") {
+    let input = look.is("volatile");
+    if input {
         look.step();
     }
     if !look.is("int") {
@@ -137,17 +139,24 @@ fn declaration(alloc: Global, scope: &mut Scope, look: &mut Look) -> Result<(), 
     if is_among(look.word(), &TYPE_WORDS) {
         return Err(Stop::At(first));
     }
-    declared_name(alloc, scope, look, first)
+    let name = new_name(scope, look, first)?;
+    if input {
+        scope.declare_input(alloc, name)?;
+    } else {
+        scope.declare_cell(alloc, name)?;
+    }
+    if look.is(",") {
+        look.step();
+        return Err(Stop::At(look.at));
+    }
+    look.pass(";")
 }
 
 /// The name of a declaration whose type begins at `first`. A variable may be called `main` here, and then there is no
 /// function of that name.
-fn declared_name(
-    alloc: Global,
-    scope: &mut Scope,
-    look: &mut Look,
-    first: usize,
-) -> Result<(), Stop> {
+fn new_name<'a>(scope: &Scope, look: &mut Look<'a>, first: usize) -> Result<&'a [u8], Stop>
+    ensures { IfOk result (λ name. variable_of scope.now name.now ≡ None) }
+{
     let name = look.word();
     let at = look.at;
     if !is_variable_name(name) && !look.is("main") {
@@ -160,12 +169,7 @@ fn declared_name(
     if scope.term(name).is_some() {
         return Err(Stop::At(at));
     }
-    scope.declare_cell(alloc, name)?;
-    if look.is(",") {
-        look.step();
-        return Err(Stop::At(look.at));
-    }
-    look.pass(";")
+    Ok(name)
 }
 
 /// The head of `main` up to its brace.

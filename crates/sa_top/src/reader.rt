@@ -154,3 +154,6 @@ pub fn read_source(alloc: Global, source: &[u8]) -> Result<Reading, OutOfMemory>
 pub fn reads_units()
     ensures { ReadsUnits }
 {}
+
+#[cfg(test)]
+mod tests;
