@@ -1,6 +1,6 @@
 -- What the function reads is a unit by the grammar, and each unit is read as its program.
-use Rattle.std.proofs.Common.{◌≡◌, ℕ, zero, suc, ◌+◌, ◌≤◌, ◌<◌, List, [], ◌∷◌, ◌++◌, Bool, true, false, length, take, drop, map, refl, ap, sym, subst, ◌∙◌, arith, Option, Some, None, cond}
-use Rattle.std.specs.Prelude.{◌↔◌, ◌&&◌, if◌then◌else◌, codes, slice_get, ⊤}
+use Rattle.std.proofs.Common.{◌≡◌, ℕ, zero, suc, ◌≤◌, ◌<◌, List, [], ◌∷◌, ◌++◌, Bool, true, false, length, take, drop, refl, ap, sym, subst, ◌∙◌, arith, Option, Some, None, cond}
+use Rattle.std.specs.Prelude.{◌&&◌, codes, slice_get, ⊤}
 use Rattle.std.specs.Cmp.Lexicographic.{bytes_decides}
 use Rattle.std.specs.Str.{bytes_eq}
 use Rattle.std.proofs.lemmas.Bool.{and_parts, and_from, false≢true, false_from_ne_true, and_left, and_right}

@@ -1,10 +1,9 @@
 -- Intervals and a clock owe nothing to the laws of a domain.
-use Rattle.std.proofs.Common.{◌≡◌, ℕ, ℤ, pos, ◌+ℤ◌, ◌≤ℤ◌, Bool, true, false, List, [], ◌∷◌, ◌++◌, refl, subst, arith, Option, Some, None, inl, append_assoc}
-use Rattle.std.specs.Prelude.{if◌then◌else◌, get_or}
+use Rattle.std.proofs.Common.{◌≡◌, ℕ, ℤ, pos, ◌+ℤ◌, ◌≤ℤ◌, true, false, List, [], ◌∷◌, ◌++◌, refl, arith, Option, Some, None, inl, append_assoc}
+use Rattle.std.specs.Prelude.{if◌then◌else◌}
 use Rattle.std.specs.Int.RustNames.{int_le}
 use Rattle.std.proofs.lemmas.Int.{ints, clamps}
 use Rattle.sa_base.specs.declared.alarm.Alarm.{Alarm}
-use Rattle.sa_base.specs.declared.alarm.Kind.{Kind}
 use Rattle.sa_base.specs.declared.alarm.Kind.TheVariants.{Overflow, Conversion}
 use Rattle.sa_base.specs.declared.pos.Pos.{Pos}
 use Rattle.sa_interval.specs.Span.{Span, Within, IsPart, cut, high_limit}
@@ -15,11 +14,11 @@ use Rattle.sa_top.specs.declared.program.Term.TheVariants.{Number, Cell, Input}
 use Rattle.sa_top.specs.declared.program.Op.TheVariants.{Plus}
 use Rattle.sa_top.specs.declared.program.Link.{Link}
 use Rattle.sa_top.specs.declared.program.Sum.{Sum}
-use Rattle.sa_top.specs.Evaluation.{Value, Gives, Stops, End, Error, Blocked, Tape, is_int, then_value, checked, read, term_value, result_of, link_value, links_value, sum_value, converted}
+use Rattle.sa_top.specs.Evaluation.{Value, Gives, Stops, Error, Blocked, is_int, then_value, checked, read, term_value, result_of, link_value, links_value, sum_value, converted}
 use Rattle.sa_top.specs.Executions.{put}
-use Rattle.sa_top.specs.Intervals.{int_span, single, term_span, row_of, link_span, next_span, links_span, sum_span, outside, outside_if, link_alarms, links_alarms, sum_alarms, converted_span, with_cell, assign_of, tick_of, whole_clock, merge_of, le_of, widen_of, widened_cell, widened_clock, risen, copies, all_parts, Holds, AllWithin, intervals}
+use Rattle.sa_top.specs.Intervals.{int_span, single, term_span, row_of, link_span, next_span, links_span, sum_span, outside, outside_if, link_alarms, links_alarms, sum_alarms, converted_span, with_cell, tick_of, whole_clock, le_of, widened_cell, widened_clock, copies, all_parts, Holds, AllWithin, intervals}
 use Rattle.sa_top.specs.Passes.{alive_then}
-use Rattle.sa_top.specs.Sound.{IsAmong, IsCovered}
+use Rattle.sa_top.specs.Sound.{IsAmong}
 use Rattle.sa_top.proofs.Laws.{Laws, AliveAnd, IfAlive, Covers}
 use Rattle.sa_top.proofs.StepLaws.{among_left, among_right}
 use Rattle.sa_top.proofs.RunLaws.{covered_more}

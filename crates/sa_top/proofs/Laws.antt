@@ -1,14 +1,14 @@
 -- What a domain owes, for the analysis over it to be sound: each operation holds of what it stands for, and keeps the
 -- environments that lie under the top. Of widening nothing is asked but that.
-use Rattle.std.proofs.Common.{◌≡◌, ℕ, ℤ, pos, ◌+ℤ◌, Bool, true, false, List, Option, Some, None}
+use Rattle.std.proofs.Common.{◌≡◌, ℕ, ℤ, pos, ◌+ℤ◌, true, false, List, Option, Some, None}
 use Rattle.std.specs.Int.RustNames.{int_le}
 use Rattle.sa_base.specs.declared.alarm.Alarm.{Alarm}
 use Rattle.sa_base.specs.declared.pos.Pos.{Pos}
 use Rattle.sa_top.specs.declared.program.Sum.{Sum}
-use Rattle.sa_top.specs.Evaluation.{Value, Gives, Stops, converted, End, Error, Clock, Blocked, Tape, Going}
+use Rattle.sa_top.specs.Evaluation.{Value, Gives, Stops, converted}
 use Rattle.sa_top.specs.Executions.{put, zeros}
 use Rattle.sa_top.specs.Domain.{Domain}
-use Rattle.sa_top.specs.Sound.{IsAmong, IsCovered}
+use Rattle.sa_top.specs.Sound.{IsCovered}
 
 -- not dead, and P holds
 abbrev pub AliveAnd : {A : Type 0} → (A → Type 0) → Option A → Type 0

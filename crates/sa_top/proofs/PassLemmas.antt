@@ -1,10 +1,10 @@
 -- The passes over intervals, where no state is reduced: at a stable pass, one pass on, and at the last.
-use Rattle.std.proofs.Common.{◌≡◌, ℕ, zero, suc, ◌+◌, ℤ, Bool, true, false, refl, sym, ap, ◌∙◌, Option, Some, None}
-use Rattle.std.specs.Prelude.{if◌then◌else◌, nat_le, length}
+use Rattle.std.proofs.Common.{◌≡◌, ℕ, suc, ◌+◌, ℤ, Bool, true, false, refl, sym, ap, ◌∙◌, Option, Some}
+use Rattle.std.specs.Prelude.{if◌then◌else◌, nat_le}
 use Rattle.sa_top.specs.declared.env.Flat.{Flat}
 use Rattle.sa_top.specs.declared.program.Program.{Program}
 use Rattle.sa_top.specs.Intervals.{intervals, le_of, initial_of, top_of, whole_clock}
-use Rattle.sa_top.specs.Passes.{Facts, alive_then, rested, joined, next, turned, passes_from, facts_of}
+use Rattle.sa_top.specs.Passes.{alive_then, rested, joined, next, turned, passes_from, facts_of}
 use Rattle.sa_top.specs.Reference.{clock_turn_of, clock_facts}
 
 if-same : {A : Type 0} (b : Bool) (x : A) → (if b then x else x) ≡ x

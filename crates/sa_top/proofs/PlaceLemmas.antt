@@ -1,5 +1,5 @@
 -- Each token has a place, and so has the end of a text.
-use Rattle.std.proofs.Common.{◌≡◌, ℕ, zero, suc, ◌+◌, ◌≤◌, ◌<◌, List, [], ◌∷◌, Bool, true, false, length, drop, get_or, refl, ap, sym, subst, ◌∙◌, arith, Option, Some, None, cond}
+use Rattle.std.proofs.Common.{◌≡◌, ℕ, zero, suc, ◌+◌, ◌≤◌, ◌<◌, List, [], ◌∷◌, true, false, length, drop, get_or, ap, sym, subst, arith, cond}
 use Rattle.std.specs.Prelude.{◌==◌, ◌&&◌, if◌then◌else◌, fold, ⊤}
 use Rattle.std.proofs.lemmas.List.{drop_more, drop_all}
 use Rattle.sa_base.specs.declared.pos.Pos.{Pos}

@@ -1,5 +1,5 @@
 -- The parts of a text, the statements of a turn and the declarations of a unit, one step on and at the end.
-use Rattle.std.proofs.Common.{◌≡◌, ℕ, ◌+◌, ◌-◌, ◌≤◌, ◌<◌, suc, List, [], ◌∷◌, ◌++◌, Bool, true, false, length, take, drop, get_or, map, refl, ap, sym, subst, ◌∙◌, arith, Option, Some, None, cond}
+use Rattle.std.proofs.Common.{◌≡◌, ℕ, ◌+◌, ◌-◌, ◌≤◌, ◌<◌, List, [], ◌∷◌, ◌++◌, Bool, true, false, length, take, drop, get_or, map, refl, ap, sym, subst, ◌∙◌, arith, Option, Some, None, cond}
 use Rattle.std.specs.Prelude.{if◌then◌else◌, codes, min, slice_get, Result, IfOk}
 use Rattle.std.specs.Bool.{then_some}
 use Rattle.std.specs.Borrow.{Bor}

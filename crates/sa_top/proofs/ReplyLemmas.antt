@@ -1,12 +1,11 @@
 -- What a read tells of the content of the named file.
-use Rattle.std.proofs.Common.{◌≡◌, ℕ, ◌+◌, ◌<◌, ◌≤◌, List, [], ◌∷◌, ◌++◌, Option, Some, None, Result, Ok, Err, length, length-append, true, Bool, refl, sym, ap, subst, ◌∙◌, arith}
+use Rattle.std.proofs.Common.{◌≡◌, ℕ, ◌<◌, List, [], ◌∷◌, ◌++◌, Option, Some, None, Ok, Err, length, length-append, true, Bool, refl, sym, ap, subst, arith}
 use Rattle.std.specs.Prelude.{nat_lt, if◌then◌else◌}
 use Rattle.std.proofs.lemmas.Bool.Decides.{nat_tests}
 use Rattle.sa_base.specs.declared.status.Status.TheVariants as s
 use Rattle.sa_base.specs.declared.limit.Limit.TheVariants.{Source}
 use Rattle.sa_outside.specs.Files.{Files, file_of}
 use Rattle.sa_outside.specs.Reading.{FitsFile, FitsTold, StopsAtLimit}
-use Rattle.sa_outside.specs.declared.shelf.ShelfError.{ShelfError}
 use Rattle.sa_outside.specs.declared.shelf.ShelfError.TheVariants.{TooLong}
 use Rattle.sa_base.specs.declared.status.Status.{Status}
 use Rattle.sa_top.specs.Answer.{Answer, Says, Fits, content_answer, source_answer, built_answer}

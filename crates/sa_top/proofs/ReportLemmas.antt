@@ -15,7 +15,7 @@ use Rattle.sa_top.specs.Alarms.{rising}
 use Rattle.sa_top.specs.Analysis.{found_by}
 use Rattle.sa_top.specs.Executions.{clock_loop}
 use Rattle.sa_top.specs.Intervals.{single, intervals}
-use Rattle.sa_top.specs.Lines.{Line, CellIn, occurs, cell_lines, lines_of}
+use Rattle.sa_top.specs.Lines.{CellIn, occurs, cell_lines, lines_of}
 use Rattle.sa_top.specs.Reference.{record_at, same_pos}
 use Rattle.sa_top.specs.Report.{line_text, lines_text, alarm_text, alarms_text, count_text, loop_text, reached_text, report_text}
 use Rattle.sa_top.specs.Sound.{max_clock}

@@ -1,6 +1,6 @@
 -- Each statement, from a state in its environment: the visits stand in the records, an error is among the alarms, and the
 -- state after is in the environment after. From there to turns of the clock loop, and to whole executions.
-use Rattle.std.proofs.Common.{◌≡◌, ℕ, zero, suc, ℤ, pos, ◌+ℤ◌, Bool, true, false, List, [], ◌∷◌, ◌++◌, refl, Option, Some, None, ◌⊎◌, inl, inr}
+use Rattle.std.proofs.Common.{◌≡◌, ℕ, zero, suc, ℤ, pos, ◌+ℤ◌, true, false, List, [], ◌∷◌, ◌++◌, refl, Option, Some, None, ◌⊎◌, inl, inr}
 use Rattle.std.specs.Prelude.{if◌then◌else◌, nat_le, length}
 use Rattle.std.specs.Int.RustNames.{int_le}
 use Rattle.std.specs.List.{AllByRecursion}
@@ -10,7 +10,7 @@ use Rattle.sa_top.specs.declared.program.Program.{Program}
 use Rattle.sa_top.specs.declared.program.Stmt.{Stmt}
 use Rattle.sa_top.specs.declared.program.Stmt.TheVariants.{Assign}
 use Rattle.sa_top.specs.Evaluation.{End, Error, Clock, Blocked, Tape, Going, Value, Gives, Stops, converted}
-use Rattle.sa_top.specs.Executions.{Loop, Visit, Run, State, Result, Goes, Breaks, Over, Turn, Again, Leaves, Ended, with_value, then_state, then_again, visit_with, over, turns, run, run_all, stored, put, wait, clock_turn, clock_loop, start, ended, execution}
+use Rattle.sa_top.specs.Executions.{Loop, Visit, Run, State, Result, Goes, Breaks, Over, Turn, Again, Leaves, Ended, with_value, then_state, then_again, visit_with, turns, run, run_all, stored, put, wait, clock_turn, clock_loop, start, ended, execution}
 use Rattle.sa_top.specs.Domain.{Domain}
 use Rattle.sa_top.specs.Passes.{Facts, alive_then}
 use Rattle.sa_top.specs.Steps.{Record, Found, Exits, both, found_in, found_over, recorded, list_of, flat, goes_on, either, merged, loop_found, spread, broken_over, after, after_all, after_block, found, found_all, found_block}

@@ -1,20 +1,18 @@
 -- Small sources, computed by the definitions alone.
-use Rattle.std.proofs.Common.{◌≡◌, ℕ, ℤ, pos, negsuc, List, [], ◌∷◌, refl, Option, Some, None}
+use Rattle.std.proofs.Common.{◌≡◌, ℕ, pos, List, [], ◌∷◌, refl, Some, None}
 use Rattle.std.specs.Prelude.{codes}
 use Rattle.std.specs.Option.{option_map}
 use Rattle.sa_base.specs.declared.alarm.Kind.TheVariants.{Overflow}
 use Rattle.sa_interval.specs.Widening.{thresholds_of, nearest_below, nearest_above}
 use Rattle.sa_top.specs.Tokens.{tokens_at}
 use Rattle.sa_top.specs.Reading.{literal_of, index_from, variable_of, is_fresh, spells, declared, links_of, sum_of, assign_of, parts_of, turn_of, main_of, unit_of, program_of}
-use Rattle.sa_top.specs.Evaluation.{links_value, End, Error, Going}
-use Rattle.sa_top.specs.Executions.{run_all, turns, execution, Run}
+use Rattle.sa_top.specs.Evaluation.{links_value, Error, Going}
+use Rattle.sa_top.specs.Executions.{run_all, turns, execution}
 use Rattle.sa_top.specs.Passes.{passes_from, facts_of}
-use Rattle.sa_top.specs.Steps.{Found, after_all, found_all}
+use Rattle.sa_top.specs.Steps.{after_all, found_all}
 use Rattle.sa_top.specs.Intervals.{next_span, links_span, link_alarms, links_alarms}
 use Rattle.sa_top.specs.Reference.{reference}
 use Rattle.sa_top.specs.Sound.{max_clock, found_of}
-use Rattle.sa_top.specs.declared.env.Flat.{Flat}
-use Rattle.sa_top.specs.declared.program.Program.{Program}
 
 counter : List ℕ
 counter = codes "int x;\nvoid main(void) {\n  while (1) {\n    x = x + 1;\n    __ASTREE_wait_for_clock(());\n  }\n}\n"

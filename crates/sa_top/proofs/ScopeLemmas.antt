@@ -7,12 +7,12 @@ use Rattle.std.specs.Ordering.{is_eq, nat_cmp}
 use Rattle.std.specs.Cmp.{eq_by_cmp_equiv}
 use Rattle.std.specs.Cmp.Lexicographic.{slice_cmp, bytes_decides, nat_list_cmp_total, nat_list_eq_equiv}
 use Rattle.std.specs.Map.{lookup, IsKeyTest, AreApart, KeepsOthers}
-use Rattle.std.specs.BTreeMap.{BTreeMap, UpdatesBy, get_by}
+use Rattle.std.specs.BTreeMap.{BTreeMap, UpdatesBy}
 use Rattle.std.proofs.lemmas.Bool.{true≢false, cases_Bool, cond-true, cond-false}
 use Rattle.std.proofs.lemmas.Map.Text.{is_eq-slice_cmp}
 use Rattle.sa_top.specs.declared.program.Term.{Term}
 use Rattle.sa_top.specs.declared.program.Term.TheVariants.{Cell, Input}
-use Rattle.sa_top.specs.Reading.{Scope, no_names, with_cell, with_input, index_from, variable_in, variable_of, input_term}
+use Rattle.sa_top.specs.Reading.{Scope, no_names, with_cell, with_input, index_from, variable_in, variable_of}
 use Rattle.sa_top.specs.ReadingSteps.{term_in}
 
 -- ---- the map

@@ -1,19 +1,18 @@
 -- The reference analysis is sound over intervals: what is printed is true.
-use Rattle.std.proofs.Common.{◌≡◌, ℕ, ◌+◌, ◌≤◌, ℤ, pos, Bool, true, false, List, [], ◌∷◌, refl, Option, Some, None, length, arith}
+use Rattle.std.proofs.Common.{ℕ, ◌+◌, ℤ, pos, true, false, List, [], ◌∷◌, refl, Option, Some, None, length, arith}
 use Rattle.std.specs.Prelude.{if◌then◌else◌, get_or}
 use Rattle.std.specs.List.{AllByRecursion}
 use Rattle.std.proofs.lemmas.Int.{ints}
-use Rattle.sa_base.specs.declared.alarm.Alarm.{Alarm}
 use Rattle.sa_interval.specs.Span.{Span}
 use Rattle.sa_top.specs.declared.env.Flat.{Flat}
 use Rattle.sa_top.specs.declared.program.Program.{Program}
 use Rattle.sa_top.specs.declared.program.Stmt.{Stmt}
 use Rattle.sa_top.specs.Executions.{Visit}
 use Rattle.sa_top.specs.Intervals.{AllWithin, Holds, intervals, single}
-use Rattle.sa_top.specs.Lines.{Line, ClockIn, CellIn, IsTrueLine, occurs, cell_lines, lines_of}
-use Rattle.sa_top.specs.Reference.{record_at, reference}
+use Rattle.sa_top.specs.Lines.{CellIn, IsTrueLine, occurs, cell_lines}
+use Rattle.sa_top.specs.Reference.{record_at}
 use Rattle.sa_top.specs.Steps.{Record}
-use Rattle.sa_top.specs.Sound.{AreTrueAt, IsTrueOf, Sound, Short, max_clock, found_of}
+use Rattle.sa_top.specs.Sound.{AreTrueAt, Sound, Short, max_clock, found_of}
 use Rattle.sa_top.specs.Alarms.{rising}
 use Rattle.sa_top.proofs.AlarmLemmas.{among-rising}
 use Rattle.sa_top.proofs.IntervalLaws.{interval_laws}

@@ -1,19 +1,19 @@
 -- Facts on intervals and lists of them.
-use Rattle.std.proofs.Common.{◌≡◌, ℕ, zero, suc, ℤ, pos, negsuc, ◌+ℤ◌, ◌-ℤ◌, ◌≤ℤ◌, ◌<ℤ◌, Bool, true, false, ◌&&◌, List, [], ◌∷◌, refl, arith, Option, Some, None}
+use Rattle.std.proofs.Common.{◌≡◌, ℕ, zero, suc, ℤ, pos, ◌≤ℤ◌, ◌<ℤ◌, Bool, true, false, ◌&&◌, List, [], ◌∷◌, refl, arith}
 use Rattle.std.specs.Prelude.{if◌then◌else◌, get_or, nat_le}
 use Rattle.std.specs.Int.{int_max, int_min}
 use Rattle.std.specs.Int.RustNames.{int_le}
 use Rattle.std.specs.Int.Signed.{le_z}
 use Rattle.std.proofs.lemmas.Int.{ints, clamps}
 use Rattle.sa_interval.specs.Span.{Span, Within, IsPart, cut}
-use Rattle.sa_interval.specs.Rows.{sum_of, difference_of, join_of, meet_of, is_part}
+use Rattle.sa_interval.specs.Rows.{join_of, meet_of, is_part}
 use Rattle.sa_interval.specs.Widening.{thresholds_of, widening_of}
 use Rattle.sa_interval.proofs.Stops.{widening_between}
 use Rattle.sa_top.specs.declared.program.Op.{Op}
 use Rattle.sa_top.specs.declared.program.Op.TheVariants.{Plus, Minus}
 use Rattle.sa_top.specs.Evaluation.{is_int, result_of}
 use Rattle.sa_top.specs.Executions.{put, zeros}
-use Rattle.sa_top.specs.Intervals.{int_span, single, row_of, zip, all_parts, copies, AllWithin, widened_cell, spread_to_type, fallen, risen}
+use Rattle.sa_top.specs.Intervals.{int_span, single, row_of, zip, all_parts, copies, AllWithin, widened_cell, spread_to_type, risen}
 use Rattle.sa_top.proofs.Laws.{AliveAnd, IfAlive}
 use Rattle.sa_top.proofs.PassLaws.{if_keeps}
 

@@ -8,7 +8,7 @@ use Rattle.sa_top.specs.declared.program.Stmt.{Stmt}
 use Rattle.sa_top.specs.declared.program.Stmt.TheVariants.{Assign}
 use Rattle.sa_top.specs.Executions.{Loop}
 use Rattle.sa_top.specs.Domain.{Domain}
-use Rattle.sa_top.specs.Steps.{Record, Found, Exits, both, found_in, found_over, list_of, flat, goes_on, either, merged, spread, broken_over, after, after_all, after_block, found, found_all, found_block}
+use Rattle.sa_top.specs.Steps.{Record, Found, Exits, found_in, found_over, list_of, flat, either, merged, spread, broken_over, after, after_all, after_block, found, found_all, found_block}
 use Rattle.sa_top.specs.Reference.{record_at, with_record, same_loop, same_path, same_pos}
 use Rattle.sa_top.specs.Sound.{IsAmong}
 use Rattle.sa_top.proofs.Laws.{Laws, AliveAnd, IfAlive}

@@ -1,16 +1,14 @@
 -- A block from one environment, whose list never has more than one: it is the straight walk.
-use Rattle.std.proofs.Common.{◌≡◌, ℕ, ℤ, pos, Bool, true, false, List, [], ◌∷◌, ◌++◌, refl, sym, ap, ap₂, ◌∙◌, Option, Some, None, append-nil, length}
+use Rattle.std.proofs.Common.{◌≡◌, ℕ, ℤ, List, [], ◌∷◌, ◌++◌, refl, ap, ap₂, ◌∙◌, Option, Some, None, append-nil, length}
 use Rattle.std.specs.Prelude.{if◌then◌else◌, nat_le}
 use Rattle.sa_base.specs.declared.pos.Pos.{Pos}
 use Rattle.sa_base.specs.declared.alarm.Alarm.{Alarm}
 use Rattle.sa_top.specs.declared.env.Flat.{Flat}
-use Rattle.sa_top.specs.declared.program.Program.{Program}
 use Rattle.sa_top.specs.declared.program.Stmt.{Stmt}
 use Rattle.sa_top.specs.declared.program.Stmt.TheVariants.{Assign}
 use Rattle.sa_top.specs.Intervals.{intervals, assign_of}
-use Rattle.sa_top.specs.Passes.{alive_then}
-use Rattle.sa_top.specs.Steps.{Found, Record, Exits, list_of, merged, after, after_all, after_block, found, found_all, found_over, found_block, spread}
-use Rattle.sa_top.specs.Straight.{straight, straight_alarms, next_env, next_alarms, stmt_after}
+use Rattle.sa_top.specs.Steps.{Record, list_of, merged, after, after_all, after_block, found, found_all, found_over, found_block, spread}
+use Rattle.sa_top.specs.Straight.{straight, straight_alarms, next_env, next_alarms}
 
 -- a list of at most one environment is small
 small : (r : Option Flat) (other : List Flat) → (if nat_le (length (list_of r ++ [])) 16 then list_of r ++ [] else other) ≡ list_of r

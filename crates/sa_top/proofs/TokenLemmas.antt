@@ -1,5 +1,5 @@
 -- The tokens of a text, cut from its front: a blank is passed, and else a token is followed by those of the rest.
-use Rattle.std.proofs.Common.{◌≡◌, ℕ, ◌+◌, ◌-◌, ◌≤◌, ◌<◌, suc, List, [], ◌∷◌, ◌++◌, Bool, true, false, length, take, drop, refl, ap, sym, subst, get_or, ◌∙◌, arith, max, cond}
+use Rattle.std.proofs.Common.{◌≡◌, ℕ, ◌+◌, ◌-◌, ◌≤◌, ◌<◌, suc, List, [], ◌∷◌, ◌++◌, true, false, length, take, drop, refl, ap, sym, subst, get_or, ◌∙◌, arith, max}
 use Rattle.std.specs.Prelude.{take_while, ◌==◌, if◌then◌else◌}
 use Rattle.std.specs.List.{prefix_len}
 use Rattle.std.proofs.lemmas.List.{drop_more, drop-drop, append_assoc, drop_all}
@@ -8,7 +8,7 @@ use Rattle.std.proofs.lemmas.Grind.{common_steps}
 use Rattle.std.proofs.lemmas.Bool.Decides.{nat_tests}
 use Rattle.sa_base.specs.declared.pos.Pos.{Pos}
 use Rattle.sa_top.specs.declared.token.Token.{Token}
-use Rattle.sa_top.specs.Tokens.{is_blank, is_word_byte, begins_word, begins_line_feed, pos_after, longer, tokens_at, tokens_of}
+use Rattle.sa_top.specs.Tokens.{is_blank, is_word_byte, begins_word, pos_after, longer, tokens_at}
 
 -- a place that many bytes further on its line
 abbrev pub further : Pos → ℕ → Pos

@@ -1,9 +1,8 @@
 -- The value of digits, one digit on and at the end.
-use Rattle.std.proofs.Common.{◌≡◌, ℕ, ◌+◌, ◌-◌, ◌*◌, ◌≤◌, ◌<◌, List, [], ◌∷◌, length, drop, get_or, refl, ap, sym, ◌∙◌, arith}
+use Rattle.std.proofs.Common.{◌≡◌, ℕ, ◌+◌, ◌-◌, ◌*◌, ◌≤◌, ◌<◌, List, [], ◌∷◌, length, drop, get_or, refl, ap, arith}
 use Rattle.std.specs.Prelude.{fold, Some, None, false, nat_le, if◌then◌else◌}
 use Rattle.std.proofs.lemmas.Bool.{lt-leb}
 use Rattle.std.proofs.lemmas.List.{drop_more, drop_all}
-use Rattle.sa_top.specs.Reading.{decimal_value}
 
 -- the value so far, and more digits
 abbrev pub digits_from : ℕ → List ℕ → ℕ

@@ -1,5 +1,5 @@
 -- What the code keeps of an analysis, as the reference states it.
-use Rattle.std.specs.Prelude.{List, [], ◌∷◌}
+use Rattle.std.specs.Prelude.{[], ◌∷◌}
 use Rattle.sa_top.specs.declared.env.Flat.{Flat}
 use Rattle.sa_top.specs.declared.passes.Analysis.{Analysis}
 use Rattle.sa_top.specs.declared.program.Program.{Program}

@@ -1,6 +1,6 @@
 -- What a sum means over a store and a tape of input numbers. No interval stands here.
 -- Addition and subtraction of int (ISO C 6.5.6); a result outside the type is an error at the operator (6.5p5).
-use Rattle.std.specs.Prelude.{ℕ, ℤ, pos, ◌+ℤ◌, ◌-ℤ◌, List, [], ◌∷◌, Bool, ◌&&◌, if◌then◌else◌, get_or}
+use Rattle.std.specs.Prelude.{ℤ, pos, ◌+ℤ◌, ◌-ℤ◌, List, [], ◌∷◌, Bool, ◌&&◌, if◌then◌else◌, get_or}
 use Rattle.std.specs.Int.RustNames.{int_le}
 use Rattle.sa_base.specs.Numbers.{num_lo, num_hi}
 use Rattle.sa_base.specs.declared.num.Num.TheVariants.{I32}

@@ -4,7 +4,6 @@
 --          "__ASTREE_wait_for_clock" "(" "(" ")" ")" ";" "}" "}"
 --   sum  = term { ("+" | "-") term }      term = name | number
 use Rattle.std.specs.Prelude.{ℕ, ◌≡◌, ◌↔◌, true, List, [], ◌∷◌, ◌++◌, Some, codes, map, slice_get}
-use Rattle.sa_base.specs.declared.pos.Pos.{Pos}
 use Rattle.sa_top.specs.declared.token.Token.{Token}
 use Rattle.sa_top.specs.declared.program.Term.{Term}
 use Rattle.sa_top.specs.declared.program.Term.TheVariants.{Cell}

@@ -1,6 +1,6 @@
 -- The domain of an interval for the clock and one for each cell (Cousot and Cousot 1977; thresholds: Blanchet and others 2003).
-use Rattle.std.specs.Prelude.{ℕ, zero, suc, ℤ, pos, List, [], ◌∷◌, ◌++◌, Bool, true, false, ◌&&◌, if◌then◌else◌, get_or, nat_le, length, Option, Some, None}
-use Rattle.std.specs.Int.{int_max, int_min}
+use Rattle.std.specs.Prelude.{ℕ, zero, suc, ℤ, pos, List, [], ◌∷◌, ◌++◌, Bool, true, false, ◌&&◌, if◌then◌else◌, get_or, nat_le, Option, Some, None}
+use Rattle.std.specs.Int.{int_min}
 use Rattle.std.specs.Int.RustNames.{int_le}
 use Rattle.sa_base.specs.Numbers.{num_lo, num_hi}
 use Rattle.sa_base.specs.declared.num.Num.TheVariants.{I32}

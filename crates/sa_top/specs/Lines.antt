@@ -1,5 +1,5 @@
 -- The lines of a report on a loop, as inequalities, and when one is true of a store and a clock.
-use Rattle.std.specs.Prelude.{ℕ, ◌+◌, ◌==◌, ℤ, pos, List, [], ◌∷◌, Bool, true, false, ◌||◌, if◌then◌else◌, get_or}
+use Rattle.std.specs.Prelude.{ℕ, ◌+◌, ◌==◌, ℤ, pos, List, [], ◌∷◌, Bool, false, ◌||◌, if◌then◌else◌, get_or}
 use Rattle.sa_interval.specs.Span.{Span, Within}
 use Rattle.sa_top.specs.declared.program.Term.{Term}
 use Rattle.sa_top.specs.declared.program.Term.TheVariants.{Number, Cell, Input}

@@ -1,8 +1,7 @@
 -- The built text as a function of the whole source: cut at each `;` it is declarations, then main's head before the
 -- first statement, then statements, then the wait, then two closing braces. `Grammar` says the same as a grammar.
-use Rattle.std.specs.Prelude.{ℕ, ◌+◌, ◌-◌, ◌*◌, ◌==◌, List, [], ◌∷◌, ◌++◌, Bool, true, false, ◌&&◌, ◌||◌, not, if◌then◌else◌, nat_le, Option, Some, None, codes, map, fold, take, drop, slice_get}
+use Rattle.std.specs.Prelude.{ℕ, ◌+◌, ◌-◌, ◌*◌, ◌==◌, List, [], ◌∷◌, ◌++◌, Bool, true, false, ◌&&◌, ◌||◌, not, if◌then◌else◌, nat_le, Option, Some, None, codes, fold, take, drop, slice_get}
 use Rattle.std.specs.List.{list_any, list_all}
-use Rattle.std.specs.Option.{option_map}
 use Rattle.std.specs.Str.{bytes_eq}
 use Rattle.sa_base.specs.declared.pos.Pos.{Pos}
 use Rattle.sa_top.specs.declared.token.Token.{Token}

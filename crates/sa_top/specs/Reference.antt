@@ -1,5 +1,5 @@
 -- The reference analysis of a program: for each loop its passes and stable state, and the alarms.
-use Rattle.std.specs.Prelude.{ℕ, Bool, true, false, ◌&&◌, ◌==◌, List, [], ◌∷◌, Option, Some, None, if◌then◌else◌, max}
+use Rattle.std.specs.Prelude.{Bool, true, false, ◌&&◌, ◌==◌, List, [], ◌∷◌, Option, Some, None, if◌then◌else◌, max}
 use Rattle.sa_base.specs.declared.pos.Pos.{Pos}
 use Rattle.sa_top.specs.declared.program.Program.{Program}
 use Rattle.sa_top.specs.Executions.{Loop, clock_loop}

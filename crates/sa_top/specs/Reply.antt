@@ -6,8 +6,7 @@ use Rattle.sa_outside.specs.Files.{Files}
 use Rattle.sa_top.specs.declared.reply.Reply.{Reply}
 use Rattle.sa_top.specs.declared.reply.Silent.{Silent}
 use Rattle.sa_top.specs.declared.reply.Silent.TheVariants.{NoMemory}
-use Rattle.sa_top.specs.Answer.{Fits, named_answer, name_of}
-use Rattle.sa_top.specs.Report.{usage_text}
+use Rattle.sa_top.specs.Answer.{Fits, named_answer}
 use Rattle.sa_top.specs.Top.{IsTold}
 
 pub record IsAnswered (files : Option Files) (name : Option (List ℕ)) (status : Status) (text : List ℕ) : Type 0 where

@@ -7,7 +7,7 @@ use Rattle.sa_top.specs.declared.program.Stmt.{Stmt}
 use Rattle.sa_top.specs.declared.program.Stmt.TheVariants.{Assign}
 use Rattle.sa_top.specs.Executions.{Loop}
 use Rattle.sa_top.specs.Domain.{Domain}
-use Rattle.sa_top.specs.Passes.{Facts, alive_then}
+use Rattle.sa_top.specs.Passes.{Facts}
 
 -- the stable state of a loop and its passes
 pub record Record (Env : Type 0) : Type 0 where

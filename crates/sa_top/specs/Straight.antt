@@ -1,6 +1,6 @@
 -- A block of plain statements over the interval domain, from an environment that may be dead: one environment goes from
 -- statement to statement. `StraightLaws` ties this to the list of environments that a block keeps.
-use Rattle.std.specs.Prelude.{ℕ, ℤ, List, [], ◌∷◌, ◌++◌, Bool, true, false, Option, Some, None}
+use Rattle.std.specs.Prelude.{ℤ, List, [], ◌∷◌, ◌++◌, Bool, true, false, Option, Some, None}
 use Rattle.std.specs.List.{AllByRecursion}
 use Rattle.sa_base.specs.declared.alarm.Alarm.{Alarm}
 use Rattle.sa_interval.specs.Span.{Span, IsPart}

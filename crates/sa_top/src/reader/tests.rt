@@ -20,7 +20,10 @@ fn place(alloc: Global, source: &[u8]) -> Result<Option<(u32, u32)>, OutOfMemory
 #[test]
 fn whole_sources(rt: HostRuntime) -> Result<(), Fail> {
     let cases = [
-        ("void main(void) { while (1) { __ASTREE_wait_for_clock(()); } }", None),
+        (
+            "void main(void) { while (1) { __ASTREE_wait_for_clock(()); } }",
+            None,
+        ),
         (
             "int\nx1 ;volatile\tint u;\r\nvoid main(void){while(1){x1=u-2147483647+0;__ASTREE_wait_for_clock(());}}",
             None,
@@ -28,7 +31,10 @@ fn whole_sources(rt: HostRuntime) -> Result<(), Fail> {
         ("", Some((1, 1))),
         ("int x;\n\n", Some((3, 1))),
         ("int x", Some((1, 6))),
-        ("int x; void main(void) { x = 1; while (1) { __ASTREE_wait_for_clock(()); } }", Some((1, 26))),
+        (
+            "int x; void main(void) { x = 1; while (1) { __ASTREE_wait_for_clock(()); } }",
+            Some((1, 26)),
+        ),
         ("int x;\nint x;", Some((2, 5))),
         ("int main;\nvoid main(void) {", Some((2, 6))),
         ("int while;", Some((1, 5))),
@@ -44,8 +50,14 @@ fn whole_sources(rt: HostRuntime) -> Result<(), Fail> {
         ("void main(void) { while (2) { } }", Some((1, 19))),
         ("void main(void) { while (1) { } }", Some((1, 19))),
         ("void main(void) { }", Some((1, 20))),
-        ("void main(void) { while (1) { __ASTREE_wait_for_clock(()); } } int x;", Some((1, 64))),
-        ("void main(void) { while (1) { __ASTREE_wait_for_clock(()); x = 1; } }", Some((1, 60))),
+        (
+            "void main(void) { while (1) { __ASTREE_wait_for_clock(()); } } int x;",
+            Some((1, 64)),
+        ),
+        (
+            "void main(void) { while (1) { __ASTREE_wait_for_clock(()); x = 1; } }",
+            Some((1, 60)),
+        ),
     ];
     for (source, want) in cases {
         assert_eq!(rt; place(rt.alloc(), source.as_bytes())?, want, "{source}");
@@ -80,7 +92,9 @@ fn statements(rt: HostRuntime) -> Result<(), Fail> {
         (";", Some((2, 1))),
     ];
     for (statement, want) in cases {
-        let source = format!(in rt.alloc(); "int x; volatile int u; void main(void) {{ while (1) {{\n{statement}\n__ASTREE_wait_for_clock(()); }} }}")?;
+        let source = format!(in rt.alloc();
+            "int x; volatile int u; void main(void) {{ while (1) {{\n{statement}\n__ASTREE_wait_for_clock(()); }} }}"
+        )?;
         assert_eq!(rt; place(rt.alloc(), source.as_bytes())?, want, "{statement}");
     }
     Ok(())

@@ -1,4 +1,4 @@
-use Rattle.std.proofs.Common.{◌≡◌, ◌∙◌, arith}
+use Rattle.std.proofs.Common.{◌∙◌, arith}
 use Rattle.std.proofs.lemmas.Grind.{common_steps}
 use Rattle.sa_top.proofs.EnvLemmas.{copies-more, copies-end, ints-push}
 use Rattle.sa_top.proofs.env.copies.Goals as goal

@@ -1,8 +1,8 @@
-use Rattle.std.proofs.Common.{◌≡◌, ◌∙◌, ◌≤ℤ◌, arith, refl, to_z, of_z, sym, subst}
+use Rattle.std.proofs.Common.{◌≡◌, ◌∙◌, arith, refl, to_z, of_z, sym, subst}
 use mir.Syntax.{w128}
 use Rattle.std.proofs.lemmas.Int.{ints, to_z-of_z}
 use Rattle.sa_interval.specs.Span.{Span, IsPart}
-use Rattle.sa_top.specs.Intervals.{int_span, fallen, risen, spread_to_type}
+use Rattle.sa_top.specs.Intervals.{int_span, fallen, risen}
 use Rattle.sa_top.proofs.env.spread_to_type.Goals as goal
 
 lo_is : (c : goal.After-new) → to_z w128 (of_z w128 c.fallen-lo.result) ≡ fallen int_span.lo c.args.i.lo c.args.j.lo

@@ -1,4 +1,4 @@
-use Rattle.std.proofs.Common.{◌≡◌, true, false, sym, ◌∙◌, ap, Some}
+use Rattle.std.proofs.Common.{true, false, sym, ◌∙◌, ap, Some}
 use Rattle.std.proofs.lemmas.Bool.{and_parts}
 use Rattle.sa_top.specs.Reading.{Scope}
 use Rattle.sa_top.proofs.FormLemmas.{fresh-undeclared, declared-cell}

@@ -1,4 +1,4 @@
-use Rattle.std.proofs.Common.{◌≡◌, ◌+◌, ◌<◌, [], length, sym, ◌∙◌, arith}
+use Rattle.std.proofs.Common.{◌+◌, ◌<◌, [], length, sym, ◌∙◌, arith}
 use Rattle.sa_top.specs.declared.token.Token.{Token}
 use Rattle.sa_top.proofs.FormLemmas.{links-stop, links-more, links-odd, links-end}
 use Rattle.sa_top.proofs.form.links.Goals as goal

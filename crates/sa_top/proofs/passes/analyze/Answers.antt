@@ -1,10 +1,10 @@
-use Rattle.std.proofs.Common.{rules, ◌≡◌, ◌∙◌, ◌++◌, ◌∷◌, [], ap, sym, refl, pos, length, Some, List}
+use Rattle.std.proofs.Common.{rules, ◌≡◌, ◌∙◌, ◌∷◌, [], ap, sym, pos, length, Some, List}
 use Rattle.sa_base.specs.declared.alarm.Alarm.{Alarm}
 use Rattle.sa_top.specs.declared.env.Flat.{Flat}
 use Rattle.sa_top.specs.Executions.{clock_loop}
 use Rattle.sa_top.specs.Intervals.{intervals}
 use Rattle.sa_top.specs.Passes.{Facts}
-use Rattle.sa_top.specs.Reference.{reference, clock_facts}
+use Rattle.sa_top.specs.Reference.{reference}
 use Rattle.sa_top.specs.Steps.{Found, both, recorded, loop_found, found_block}
 use Rattle.sa_top.specs.Straight.{straight_alarms}
 use Rattle.sa_top.proofs.StraightLaws.{block-found}

@@ -1,4 +1,4 @@
-use Rattle.std.proofs.Common.{◌≡◌, ◌∙◌, sym, get_or, arith}
+use Rattle.std.proofs.Common.{◌∙◌, sym, get_or, arith}
 use Rattle.sa_top.proofs.TokenLemmas.{pos_after-small}
 use Rattle.sa_top.proofs.PlaceLemmas.{pos_after-place, end-more, end-all}
 use Rattle.sa_top.proofs.place.end_of.Goals as goal

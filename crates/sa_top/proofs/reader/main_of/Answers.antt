@@ -1,5 +1,4 @@
-use Rattle.std.proofs.Common.{◌≡◌, ◌∙◌, sym, ap, refl, Some, None}
-use Rattle.sa_top.specs.declared.program.Program.{Program}
+use Rattle.std.proofs.Common.{◌∙◌, sym, Some, None}
 use Rattle.sa_top.proofs.ReaderLemmas.{lists, main-no_head, main-head}
 use Rattle.sa_top.proofs.reader.main_of.Goals as goal
 

@@ -1,4 +1,4 @@
-use Rattle.std.proofs.Common.{◌≡◌, ◌∙◌, sym, refl, arith, ap, map}
+use Rattle.std.proofs.Common.{◌∙◌, sym, refl, arith}
 use Rattle.sa_top.proofs.ReaderLemmas.{parts-begin, parts-cut, parts-pass, parts-end}
 use Rattle.sa_top.proofs.reader.parts.Goals as goal
 use Rattle.sa_top.proofs.reader.parts.Goals.{then-is+in_ok-push, else-is}

@@ -1,4 +1,4 @@
-use Rattle.std.proofs.Common.{◌≡◌, ◌∙◌}
+use Rattle.std.proofs.Common.{◌∙◌}
 use Rattle.sa_top.proofs.ReaderLemmas.{program-read}
 use Rattle.sa_top.proofs.reader.read_source.Goals as goal
 

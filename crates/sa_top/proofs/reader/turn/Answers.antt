@@ -1,4 +1,4 @@
-use Rattle.std.proofs.Common.{◌≡◌, ◌∙◌, sym, ap, drop, cond}
+use Rattle.std.proofs.Common.{◌∙◌, sym, drop}
 use Rattle.sa_top.proofs.ReaderLemmas.{lists, turn-waits, turn-stops, turn-goes, turn-ends, then_some-cond}
 use Rattle.sa_top.proofs.reader.turn.Goals as goal
 

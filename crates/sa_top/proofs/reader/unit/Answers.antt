@@ -1,6 +1,5 @@
-use Rattle.std.proofs.Common.{◌≡◌, ◌∙◌, sym, ap, Some, None, cond, false, true}
+use Rattle.std.proofs.Common.{◌∙◌, ap, Some, None, cond}
 use Rattle.std.proofs.lemmas.Bool.{OnFalse_at}
-use Rattle.sa_top.specs.Reading.{Scope}
 use Rattle.sa_top.proofs.ReaderLemmas.{unit-goes, unit-main, unit-ends, if_ok-same}
 use Rattle.sa_top.proofs.reader.unit.Goals as goal
 

@@ -1,4 +1,3 @@
-use Rattle.std.proofs.Common.{arith}
 use Rattle.sa_top.proofs.ReportLemmas.{alarms-passed, alarms-over}
 use Rattle.sa_top.proofs.report.push_alarms.Goals as goal
 

@@ -1,4 +1,4 @@
-use Rattle.std.proofs.Common.{rules, ◌≡◌, ◌∙◌, ◌<◌, ◌≤◌, sym, ap, subst, List, ℕ, length, get_or, false, arith}
+use Rattle.std.proofs.Common.{◌≡◌, ◌∙◌, ◌<◌, ◌≤◌, ap, subst, List, ℕ, length, get_or, false}
 use Rattle.sa_top.specs.Lines.{occurs}
 use Rattle.sa_top.proofs.ReportLemmas.{cells-passed, cells-over}
 use Rattle.sa_top.proofs.report.push_cells.Goals as goal

@@ -1,7 +1,5 @@
-use Rattle.std.proofs.Common.{◌≡◌, ◌+◌, ◌++◌, List, get_or, ◌∙◌, sym, ap, subst, arith, length-drop, append-nil}
-use Rattle.sa_base.specs.declared.pos.Pos.{Pos}
+use Rattle.std.proofs.Common.{◌+◌, ◌++◌, List, get_or, ◌∙◌, sym, ap, arith, length-drop, append-nil}
 use Rattle.sa_top.specs.declared.token.Token.{Token}
-use Rattle.sa_top.specs.Tokens.{tokens_at}
 use Rattle.sa_top.proofs.TokenLemmas.{blank_at, end_at, rest_is, found_more, pos_after-small}
 use Rattle.sa_top.proofs.token.tokens.Goals as goal
 

@@ -1,5 +1,4 @@
-use Rattle.std.proofs.Common.{◌≡◌, ◌∙◌, sym, ap, Bool, Option, Some, None}
-use Rattle.sa_top.specs.declared.env.Flat.{Flat}
+use Rattle.std.proofs.Common.{◌≡◌, ◌∙◌, sym, ap, Bool, Some, None}
 use Rattle.sa_top.specs.Straight.{stmt_after, alive_env}
 use Rattle.sa_top.proofs.WalkLemmas.{straight-passed, straight-dies, straight-end, alarms-passed, alarms-died, alarms-end}
 use Rattle.sa_top.proofs.walk.walk.Goals as goal

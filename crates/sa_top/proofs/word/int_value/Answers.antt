@@ -1,5 +1,5 @@
-use Rattle.std.proofs.Common.{◌≡◌, ◌+◌, ◌-◌, ◌*◌, get_or, drop, ◌∙◌, sym, ap, arith}
-use Rattle.sa_top.proofs.WordLemmas.{digits_from, digits-more, too_large}
+use Rattle.std.proofs.Common.{◌+◌, ◌-◌, ◌*◌, get_or, drop, ◌∙◌, sym}
+use Rattle.sa_top.proofs.WordLemmas.{digits-more, too_large}
 use Rattle.sa_top.proofs.word.int_value.Goals as goal
 
 pub returns-then-value-gt2147483647 : goal.returns-then-value-gt2147483647

@@ -1,4 +1,4 @@
-use Rattle.std.proofs.Common.{◌∙◌, sym}
+use Rattle.std.proofs.Common.{sym}
 use Rattle.sa_top.proofs.ScopeLemmas.{variable_of-none}
 use Rattle.sa_top.proofs.scope.Scope.new.Goals as goal
 
