@@ -1,9 +1,11 @@
 //! The place of the first form, in text order, that isn't built. A source that is read as a program never comes here.
 
-ghost use Rattle.std.specs.Prelude.{◌≡◌, ◌≤◌, None, IfOk, fold, length};
+ghost use Rattle.std.specs.Prelude.{ℕ, ◌≡◌, ◌≤◌, None, IfOk, fold, length};
 ghost use Rattle.sa_top.specs.Tokens.{first_pos, pos_after, tokens_of};
 ghost use Rattle.sa_top.specs.Reading.{variable_of};
+ghost use Rattle.sa_top.specs.ReadingSteps.{place_at};
 ghost use Rattle.sa_top.specs.Answer.{IsPlace};
+ghost use Rattle.sa_top.specs.declared.place.Stop.TheVariants.{NoMemory};
 
 use crate::program::Term;
 use crate::scope::Scope;
@@ -49,7 +51,9 @@ enum Stop {
 }
 
 impl From<OutOfMemory> for Stop {
-    fn from(e: OutOfMemory) -> Stop {
+    fn from(e: OutOfMemory) -> Stop
+        ensures { result ≡ NoMemory e }
+    {
         Stop::NoMemory(e)
     }
 }
@@ -274,6 +278,7 @@ fn operand(scope: &Scope, look: &mut Look) -> Result<(), Stop> {
     Ok(())
 }
 
+/// The whole text. A loop here turns at most once for each token, since each turn goes past at least one.
 fn unit(alloc: Global, look: &mut Look) -> Result<(), Stop> {
     let mut scope = Scope::new(alloc);
     for _ in 0..look.tokens.len() {
@@ -315,7 +320,8 @@ fn end_of(source: &[u8]) -> Pos
 pub fn unbuilt_at(alloc: Global, source: &[u8], tokens: &[Token]) -> Result<Pos, OutOfMemory>
     requires size { length source.now ≤ 4194304 }
     requires tokens { tokens.now ≡ tokens_of source.now }
-    ensures { IfOk result IsPlace }
+    ensures value { IfOk result (λ p. (k : ℕ) × (p ≡ place_at source.now k)) }
+    ensures place { IfOk result IsPlace }
 {
     let at = unbuilt_token(alloc, tokens)?;
     Ok(place_of(source, tokens, at))
@@ -325,7 +331,8 @@ pub fn unbuilt_at(alloc: Global, source: &[u8], tokens: &[Token]) -> Result<Pos,
 fn place_of(source: &[u8], tokens: &[Token], at: usize) -> Pos
     requires size { length source.now ≤ 4194304 }
     requires tokens { tokens.now ≡ tokens_of source.now }
-    ensures { IsPlace result }
+    ensures value { result ≡ place_at source.now at }
+    ensures place { IsPlace result }
 {
     match tokens.get(at) {
         Some(token) => token.pos,

@@ -8,7 +8,7 @@ ghost use Rattle.sa_top.specs.Reading.{keywords, is_digit, begins_as_name, is_va
 use crate::token::is_word_byte;
 
 /// The keywords of C (ISO C 6.4.1), and the words of the four directives.
-pub const KEYWORDS: [&str; 41] = [
+const KEYWORDS: [&str; 41] = [
     "auto",
     "break",
     "case",
@@ -130,8 +130,8 @@ fn int_value(digits: &[u8]) -> Option<u32>
     Some(value as u32)
 }
 
-#[tactic(auto, unfolding(crate::specs::Reading::literal_of))]
 /// The value of a literal of type `int` without suffix (ISO C 6.4.4.1), None for another word.
+#[tactic(auto, unfolding(crate::specs::Reading::literal_of))]
 pub fn literal(word: &[u8]) -> Option<u32>
     ensures { result ≡ literal_of word.now }
 {

@@ -8,5 +8,5 @@ returns-in-Some c = program-read c.args.source.now _ _ _ _ _ c.in_ok-tokens.ensu
 pub returns : goal.returns
 returns c = (
   program-read c.args.source.now _ _ _ _ _ c.in_ok-tokens.ensures c.deref.ensures.value c.in_ok-parts.ensures c.deref-2.ensures.value c.in_ok-program.ensures ∙ c.in-None.is,
-  c.in_ok-unbuilt_at-in-None.ensures,
+  c.in_ok-unbuilt_at-in-None.ensures.place,
 )

@@ -1,0 +1,15 @@
+pub mod Numbers
+pub mod BoundLaws
+pub mod TableLaws
+pub mod WalkLaws
+pub mod Pivots
+pub mod StoredLaws
+pub mod Shortening
+pub mod Strengthening
+pub mod Soundness
+pub mod ClosedLaws
+pub mod NodeLaws
+pub mod MatrixLaws
+pub mod OperationLaws
+pub mod Sizes
+mod Sample
