@@ -5,34 +5,36 @@ use Rattle.std.proofs.lemmas.Int.{ints, clamps}
 use Rattle.std.proofs.lemmas.Bool.{cases_eq}
 use Rattle.std.proofs.lemmas.Option.{none-some, same_Some}
 use Rattle.sa_dbm.specs.Bounds.{Bound, plus, lesser, greater, at_most, AtMost, least, half, even, is_negative}
-use Rattle.sa_dbm.proofs.Numbers.{le-refl, le-trans, le_antisym, add_mono, add-zero_right, add_zero_left, add_group, half_low, half_of_double}
+use Rattle.sa_numbers.proofs.Halves.{even_below-low, half-double}
+use Rattle.sa_numbers.proofs.Order.{≤ℤ_refl, ≤ℤ_trans, ≤ℤ_antisym}
+use Rattle.sa_numbers.proofs.Sums.{add_mono, add-zero_right, add_zero_left, add_group}
 
 pub at_most_refl : (a : Bound) → AtMost a a
 at_most_refl None = tt
-at_most_refl (Some x) = le-refl x
+at_most_refl (Some x) = ≤ℤ_refl x
 
 pub at_most_trans : (a b c : Bound) → AtMost a b → AtMost b c → AtMost a c
 at_most_trans a b None h k = tt
 at_most_trans a None (Some z) h k = absurd k
 at_most_trans None (Some y) (Some z) h k = absurd h
-at_most_trans (Some x) (Some y) (Some z) h k = le-trans x y z h k
+at_most_trans (Some x) (Some y) (Some z) h k = ≤ℤ_trans x y z h k
 
 pub at_most_antisym : (a b : Bound) → AtMost a b → AtMost b a → a ≡ b
 at_most_antisym None None h k = refl
 at_most_antisym None (Some y) h k = absurd h
 at_most_antisym (Some x) None h k = absurd k
-at_most_antisym (Some x) (Some y) h k = ap Some (le_antisym x y h k)
+at_most_antisym (Some x) (Some y) h k = ap Some (≤ℤ_antisym x y h k)
 
 -- ---- the lesser and the greater of two
 
 pub lesser_left : (a b : Bound) → AtMost (lesser a b) a
 lesser_left None b = tt
-lesser_left (Some x) None = le-refl x
+lesser_left (Some x) None = ≤ℤ_refl x
 lesser_left (Some x) (Some y) = omega (arith, ints, clamps)
 
 pub lesser_right : (a b : Bound) → AtMost (lesser a b) b
 lesser_right a None = tt
-lesser_right None (Some y) = le-refl y
+lesser_right None (Some y) = ≤ℤ_refl y
 lesser_right (Some x) (Some y) = omega (arith, ints, clamps)
 
 pub lesser_greatest : (c a b : Bound) → AtMost c a → AtMost c b → AtMost c (lesser a b)
@@ -134,11 +136,11 @@ plus_parts (Some x) (Some y) t e = (x, y, refl, refl, sym (same_Some (x +ℤ y) 
 
 pub half-even : (b : Bound) → half (even b) ≡ half b
 half-even None = refl
-half-even (Some z) = ap Some (half_of_double (int_shr z 1))
+half-even (Some z) = ap Some (half-double (int_shr z 1))
 
 pub even_below : (b : Bound) → AtMost (even b) b
 even_below None = tt
-even_below (Some z) = half_low z
+even_below (Some z) = even_below-low z
 
 -- twice a sum has its sign
 pub flat_doubled : (a b : Bound) → AtMost (Some (pos 0)) (plus a b) → AtMost (Some (pos 0)) (plus (plus a a) (plus b b))

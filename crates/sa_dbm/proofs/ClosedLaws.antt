@@ -8,7 +8,7 @@ use Rattle.sa_dbm.specs.Bounds.{Bound, plus, lesser, AtMost, half, IsFlat}
 use Rattle.sa_dbm.specs.Tables.{Table, nodes, bar, entry, IsMatrix, IsWithin, top_table}
 use Rattle.sa_dbm.specs.Walks.{Walk, stay, go, at_once, walks}
 use Rattle.sa_dbm.specs.Closed.{shortest, has_negative_walk, rounded, has_contradiction, strengthened}
-use Rattle.sa_dbm.proofs.Numbers.{size_of_sum, size-half}
+use Rattle.sa_numbers.proofs.Sizes.{size_of_sum, size-half}
 use Rattle.sa_dbm.proofs.BoundLaws.{at_most_antisym, lesser_above, lesser_is_one, plus_swap, plus_parts, flat_halved}
 use Rattle.sa_dbm.proofs.TableLaws.{entry-table, vars-table, bar_bar, bar_below}
 use Rattle.sa_dbm.proofs.WalkLaws.{reached_by_walk, below_each_walk, twin_totals}

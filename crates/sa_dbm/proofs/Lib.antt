@@ -1,4 +1,3 @@
-pub mod Numbers
 pub mod BoundLaws
 pub mod TableLaws
 pub mod WalkLaws

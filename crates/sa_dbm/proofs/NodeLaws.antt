@@ -5,7 +5,7 @@ use Rattle.std.proofs.lemmas.Option.{none-some, same_Some}
 use Rattle.sa_dbm.specs.Bounds.{Bound, plus}
 use Rattle.sa_dbm.specs.Tables.{IsWithin}
 use Rattle.sa_dbm.specs.Stored.{no_bound, shown, shown_at, stored, IsSummable}
-use Rattle.sa_dbm.proofs.Numbers.{size_of_sum}
+use Rattle.sa_numbers.proofs.Sizes.{size_of_sum}
 use Rattle.sa_dbm.proofs.BoundLaws.{plus_parts}
 use Rattle.sa_dbm.proofs.StoredLaws.{places_differ, shown-no_bound, entry-stored}
 

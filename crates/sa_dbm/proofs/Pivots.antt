@@ -10,7 +10,8 @@ use Rattle.sa_dbm.specs.Tables.{Table, nodes, entry, table, IsMatrix, IsWithin}
 use Rattle.sa_dbm.specs.Walks.{Walk, stay, go, at_once, one_more, walks}
 use Rattle.sa_dbm.proofs.TableLaws.{length-table}
 use Rattle.sa_dbm.specs.Closed.{some_negative, shortest, has_negative_walk}
-use Rattle.sa_dbm.proofs.Numbers.{le-refl, size_of_sum}
+use Rattle.sa_numbers.proofs.Order.{≤ℤ_refl}
+use Rattle.sa_numbers.proofs.Sizes.{size_of_sum}
 use Rattle.sa_dbm.proofs.BoundLaws.{at_most_refl, at_most_trans, at_most_antisym, lesser_left, lesser_right, lesser_greatest, lesser_is_one, plus_mono, plus_zero_left, plus-zero_right, plus_group, plus_parts}
 use Rattle.sa_dbm.proofs.WalkLaws.{one_arc, joined_walks, reached_by_walk, below_each_walk, at_most_by_numbers, NoDescent, below_every_walk}
 

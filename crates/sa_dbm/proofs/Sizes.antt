@@ -5,7 +5,7 @@ use Rattle.std.proofs.lemmas.Option.{none-some, same_Some}
 use Rattle.sa_dbm.specs.Bounds.{Bound, lesser, greater}
 use Rattle.sa_dbm.specs.Tables.{Table, nodes, bar, entry, table, IsWithin, top_table, tightened, joined, forgotten, rise, shifted}
 use Rattle.sa_dbm.specs.Walks.{at_once}
-use Rattle.sa_dbm.proofs.Numbers.{size_of_sum, size-negated}
+use Rattle.sa_numbers.proofs.Sizes.{size_of_sum, size-negated}
 use Rattle.sa_dbm.proofs.BoundLaws.{lesser_is_one}
 use Rattle.sa_dbm.proofs.TableLaws.{entry-table, vars-table}
 

@@ -11,7 +11,8 @@ use Rattle.sa_dbm.specs.Tables.{Table, nodes, bar, entry, table, IsBelow, tighte
 use Rattle.sa_dbm.specs.Walks.{Walk, stay, go, walks}
 use Rattle.sa_dbm.specs.Points.{Point, value, LiesIn, moved, with_value}
 use Rattle.sa_dbm.specs.Closed.{shortest, some_negative, has_negative_walk, rounded, has_contradiction, strengthened, tight_form, walked_form, closed_form, ClosesTo, KeepsPoints}
-use Rattle.sa_dbm.proofs.Numbers.{le-refl, half_greatest}
+use Rattle.sa_numbers.proofs.Halves.{half-greatest}
+use Rattle.sa_numbers.proofs.Order.{≤ℤ_refl}
 use Rattle.sa_dbm.proofs.BoundLaws.{at_most_refl, at_most_trans, lesser_left, lesser_right, lesser_greatest, greater_left, greater_right, plus_mono, even_below}
 use Rattle.sa_dbm.proofs.TableLaws.{entry-table, vars-table, at_or_twin, bar_bar, bar_below, bar-half, bar-odd}
 use Rattle.sa_dbm.proofs.WalkLaws.{one_arc, reached_by_walk, below_each_walk, at_most_by_numbers}
@@ -57,7 +58,7 @@ opposite p i = rw (value-bar p i) (twice (value p i))
 -- a bound on a number's double, halved
 below_halved : (v : ℤ) (b : Bound) → AtMost (Some (v +ℤ v)) b → AtMost (Some v) (half b)
 below_halved v None h = tt
-below_halved v (Some z) h = half_greatest v z h
+below_halved v (Some z) h = half-greatest v z h
 
 below_rounded : (v : ℤ) (b : Bound) → AtMost (Some (v +ℤ v)) b → AtMost (Some (v +ℤ v)) (even b)
 below_rounded v b h = let k = below_halved v b h in plus_mono (Some v) (half b) (Some v) (half b) k k

@@ -6,7 +6,7 @@ use Rattle.std.proofs.lemmas.Int.{ints, to_z-of_z}
 use Rattle.std.proofs.lemmas.Nat.{row_fits, same_from_place}
 use borrow.Rule.Slice.PartMut.{put_mid}
 use Rattle.std.proofs.lemmas.List.{places, length-map, get_or_default, get_or-set_same, get_or-set_other}
-use Rattle.sa_dbm.proofs.Numbers.{size-negated}
+use Rattle.sa_numbers.proofs.Sizes.{size-negated}
 use Rattle.sa_dbm.specs.Bounds.{Bound, plus, lesser, greater, half, is_negative, at_most, AtMost}
 use Rattle.sa_dbm.specs.Tables.{Table, entry, table}
 use Rattle.sa_dbm.proofs.TableLaws.{table_is}

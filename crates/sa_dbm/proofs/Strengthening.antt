@@ -7,7 +7,7 @@ use Rattle.sa_dbm.specs.Bounds.{Bound, plus, lesser, AtMost, half, even, IsFlat,
 use Rattle.sa_dbm.specs.Tables.{Table, nodes, bar, entry, table, IsWithin}
 use Rattle.sa_dbm.specs.Closed.{some_negative, rounded, has_contradiction, strengthened}
 use Rattle.sa_dbm.specs.Stored.{shown, shown_at, stored, IsSummable}
-use Rattle.sa_dbm.proofs.Numbers.{size-half}
+use Rattle.sa_numbers.proofs.Sizes.{size-half}
 use Rattle.sa_dbm.proofs.BoundLaws.{lesser_above, lesser_below, lesser_left, lesser_right, lesser_greatest, at_most_refl, at_most_antisym, half-even, even_below, flat_doubled, negative_doubled}
 use Rattle.sa_dbm.proofs.TableLaws.{entry-table, table_is, same_tables, length-table, bar_bar, bar_below, bar_differs}
 use Rattle.sa_dbm.proofs.StoredLaws.{entry-stored}

@@ -8,7 +8,8 @@ use Rattle.std.proofs.lemmas.List.FromFn.{length-range_with_len}
 use Rattle.sa_dbm.specs.Bounds.{Bound, plus, lesser, AtMost, least}
 use Rattle.sa_dbm.specs.Tables.{Table, nodes, bar, entry, table, IsMatrix}
 use Rattle.sa_dbm.specs.Walks.{Walk, stay, go, IsLeastTotal, at_once, one_more, walks}
-use Rattle.sa_dbm.proofs.Numbers.{le-refl, add-zero_right, add_zero_left, add_group, add_swap}
+use Rattle.sa_numbers.proofs.Order.{≤ℤ_refl}
+use Rattle.sa_numbers.proofs.Sums.{add-zero_right, add_zero_left, add_group, add_swap}
 use Rattle.sa_dbm.proofs.BoundLaws.{at_most_refl, at_most_trans, at_most_antisym, lesser_left, lesser_right, lesser_is_one, plus_mono, plus_parts, least_below, least_reached}
 use Rattle.sa_dbm.proofs.TableLaws.{entry-table, bar_bar, bar_below}
 
@@ -70,17 +71,17 @@ reached_by_walk m (suc k) i j t p q e =
     found = sym (walk_entry m k i j p q) ∙ e
 
 below_staying : (m : Table) (k i : ℕ) → i < nodes m → AtMost (entry (walks m k) i i) (Some (pos 0))
-below_staying m zero i p = rw (first_entry m i i p p, eq-eqb i i refl) (le-refl (pos 0))
+below_staying m zero i p = rw (first_entry m i i p p, eq-eqb i i refl) (≤ℤ_refl (pos 0))
 below_staying m (suc k) i p =
     let l = lesser_left (at_once i i) (least (nodes m) (λ h. plus (entry m i h) (entry (walks m k) h i))) in
-    rw (walk_entry m k i i p p) (at_most_trans _ (at_once i i) (Some (pos 0)) l (rw (eq-eqb i i refl) (le-refl (pos 0))))
+    rw (walk_entry m k i i p p) (at_most_trans _ (at_once i i) (Some (pos 0)) l (rw (eq-eqb i i refl) (≤ℤ_refl (pos 0))))
 
 pub below_each_walk : (m : Table) (k : ℕ) {a i j : ℕ} {t : ℤ} → a ≤ k → i < nodes m → j < nodes m → Walk m a i j t → AtMost (entry (walks m k) i j) (Some t)
 below_each_walk m k {i = i} b p q stay = below_staying m k i p
 below_each_walk m zero b p q (go r s e w) = absurd (omega arith)
 below_each_walk m (suc k) {j = j} b p q (go {k = a} {i} {h} {x = x} {y} r s e w) =
     let arcs : ℕ → Bound = λ l. plus (entry m i l) (entry (walks m k) l j) in
-    let further = plus_mono (entry m i h) (Some x) (entry (walks m k) h j) (Some y) (rw e (le-refl x)) (below_each_walk m k (omega arith) s q w) in
+    let further = plus_mono (entry m i h) (Some x) (entry (walks m k) h j) (Some y) (rw e (≤ℤ_refl x)) (below_each_walk m k (omega arith) s q w) in
     rw (walk_entry m k i j p q)
     (at_most_trans _ (least (nodes m) arcs) (Some (x +ℤ y)) (lesser_right (at_once i j) (least (nodes m) arcs))
       (at_most_trans _ (arcs h) (Some (x +ℤ y)) (least_below (nodes m) arcs h s) further))
@@ -241,7 +242,7 @@ module _ (m : Table) (c : ℕ) (few : suc c ≤ 16) (flat : NoDescent m) (simple
       omega (arith, ints)
 
   simple_by : (s : List ℕ) → length s ≤ suc c → (fuel : ℕ) {k i j : ℕ} {t : ℤ} → k ≤ fuel → Trail m s k i j t → Short m (suc c) i j t
-  simple_by s l fuel b (ends h) = (0, pos 0, omega arith, le-refl (pos 0), stay)
+  simple_by s l fuel b (ends h) = (0, pos 0, omega arith, ≤ℤ_refl (pos 0), stay)
   simple_by s l zero b (goes h p q e w) = absurd (omega arith)
   simple_by s l (suc fuel) b (goes {k = k} {i} {h = g} {j} {x} {y} h p q e w) =
       elim (cut i w) [

@@ -2,10 +2,12 @@ pub mod Bits
 pub mod Corners
 pub mod Cut
 pub mod Halves
+pub mod Masks
 pub mod Order
 pub mod Products
 pub mod Quotients
-pub mod Masks
 pub mod Remainders
 pub mod Residues
 pub mod Shifts
+pub mod Sizes
+pub mod Sums

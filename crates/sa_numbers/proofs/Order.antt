@@ -3,6 +3,9 @@ use Rattle.std.proofs.Common.{◌<ℤ◌, true, false, ℤ, ◌≡◌, ◌≤ℤ
 use Rattle.std.proofs.lemmas.Int.{ints}
 use Rattle.std.specs.Int.RustNames.{int_le, int_lt}
 
+pub ≤ℤ_refl : (x : ℤ) → x ≤ℤ x
+≤ℤ_refl x = omega (arith, ints)
+
 pub ≤ℤ_trans : (x y z : ℤ) → x ≤ℤ y → y ≤ℤ z → x ≤ℤ z
 ≤ℤ_trans x y z h k = omega (arith, ints)
 

@@ -2,15 +2,15 @@ use Rattle.std.proofs.Common.{rules, ◌≡◌, ◌∙◌, ℕ, ◌+◌, ◌*◌
 use Rattle.std.specs.Int.{w128}
 use Rattle.std.proofs.lemmas.Int.{ints}
 use Rattle.sa_dbm.specs.Tables.{Table, IsWithin, top_table, tightened}
-use Rattle.sa_dbm.proofs.TableLaws.{vars-top, vars-tightened}
+use Rattle.sa_dbm.proofs.TableLaws.{vars-tightened}
 use Rattle.sa_dbm.proofs.Sizes.{within-top, within-tightened}
 use Rattle.bench_dbm.proofs.dense.dense.Goals as goal
 use Rattle.bench_dbm.proofs.dense.dense.Goals.{then-i-j, else-i-j}
 
 pub loop-i-init : goal.loop-i-init
 loop-i-init c =
-    let e = c.in_ok-m.ensures in
-    record { vars = ap (λ (t : Table). t.vars) e ∙ vars-top 8; within = subst (IsWithin (2 ^ 100)) (sym e) (within-top (2 ^ 100) 8) }
+    let e = c.in_ok-m.ensures.value in
+    record { vars = c.in_ok-m.ensures.vars; within = subst (IsWithin (2 ^ 100)) (sym e) (within-top (2 ^ 100) 8) }
 
 pub loop-j-preserved : goal.loop-j-preserved
 loop-j-preserved c =

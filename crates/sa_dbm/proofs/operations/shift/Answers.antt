@@ -2,7 +2,7 @@ use Rattle.std.proofs.Common.{◌≡◌, ◌∙◌, ℕ, ℤ, pos, neg_ℤ, ◌-
 use Rattle.std.specs.Int.{w128}
 use Rattle.sa_dbm.specs.Bounds.{plus}
 use Rattle.sa_dbm.specs.Stored.{shown, shown_at}
-use Rattle.sa_dbm.proofs.Numbers.{size-negated}
+use Rattle.sa_numbers.proofs.Sizes.{size-negated}
 use Rattle.sa_dbm.proofs.StoredLaws.{argument_shown, negated_shown}
 use Rattle.sa_dbm.proofs.NodeLaws.{Added, Small, added_all, added_summable, small_summable, stored_small, number_small}
 use Rattle.sa_dbm.proofs.OperationLaws.{shifted_stored}
