@@ -1,10 +1,10 @@
 -- The order of bounds, their least and greatest, and their sums.
-use Rattle.std.proofs.Common.{◌≡◌, ℕ, zero, suc, ◌<◌, ◌≤◌, ℤ, pos, ◌+ℤ◌, ◌≤ℤ◌, Bool, true, false, Option, Some, None, ◌⊎◌, inl, inr, ap, ap₂, sym, subst, refl, ◌∙◌, arith}
-use Rattle.std.specs.Int.{int_min, int_max, int_shr}
+use Rattle.std.proofs.Common.{◌≡◌, ℕ, zero, suc, ◌<◌, ℤ, pos, ◌+ℤ◌, true, Some, None, ◌⊎◌, inl, inr, ap, sym, subst, refl, ◌∙◌, arith}
+use Rattle.std.specs.Int.{int_min, int_shr}
 use Rattle.std.proofs.lemmas.Int.{ints, clamps}
 use Rattle.std.proofs.lemmas.Bool.{cases_eq}
 use Rattle.std.proofs.lemmas.Option.{none-some, same_Some}
-use Rattle.sa_dbm.specs.Bounds.{Bound, plus, lesser, greater, at_most, AtMost, least, half, even, is_negative}
+use Rattle.sa_dbm.specs.Bounds.{Bound, plus, lesser, greater, AtMost, least, half, even, is_negative}
 use Rattle.sa_numbers.proofs.Halves.{even_below-low, half-double}
 use Rattle.sa_numbers.proofs.Order.{≤ℤ_refl, ≤ℤ_trans, ≤ℤ_antisym}
 use Rattle.sa_numbers.proofs.Sums.{add_mono, add-zero_right, add_zero_left, add_group}
@@ -106,7 +106,7 @@ pub least_below : (n : ℕ) (f : ℕ → Bound) (k : ℕ) → k < n → AtMost (
 least_below zero f k h = absurd (omega arith)
 least_below (suc n) f k h =
     elim (cases_eq k n) [
-      inl same ↦ subst (λ l. AtMost (lesser (least n f) (f n)) (f l)) (sym same) (lesser_right (least n f) (f n))
+      | inl same ↦ subst (λ l. AtMost (lesser (least n f) (f n)) (f l)) (sym same) (lesser_right (least n f) (f n))
       | inr other ↦ at_most_trans (lesser (least n f) (f n)) (least n f) (f k) (lesser_left (least n f) (f n)) (least_below n f k (omega arith))
     ]
 
@@ -119,7 +119,7 @@ pub least_reached : (n : ℕ) (f : ℕ → Bound) (t : ℤ) → least n f ≡ So
 least_reached zero f t e = absurd (none-some t e)
 least_reached (suc n) f t e =
     elim (lesser_is_one (least n f) (f n)) [
-      inl before ↦ one_further n f t (least_reached n f t (sym before ∙ e))
+      | inl before ↦ one_further n f t (least_reached n f t (sym before ∙ e))
       | inr last ↦ (n, omega arith, sym last ∙ e)
     ]
   where

@@ -1,16 +1,15 @@
 -- The closed form: that it is a matrix, and how large its bounds are.
-use Rattle.std.proofs.Common.{◌≡◌, ℕ, zero, suc, ◌+◌, ◌*◌, ◌^◌, ◌<◌, ◌≤◌, ◌==◌, cond, not, Bool, true, false, ℤ, pos, ◌+ℤ◌, unsigned_abs, List, length, Option, Some, None, ◌⊎◌, inl, inr, ap, ap₂, sym, subst, refl, ◌∙◌, arith, suc-mul, mul-le-mul_right}
+use Rattle.std.proofs.Common.{◌≡◌, ℕ, ◌*◌, ◌^◌, ◌<◌, ◌≤◌, not, Bool, true, false, ℤ, pos, unsigned_abs, Some, None, inl, inr, ap, ap₂, sym, subst, refl, ◌∙◌, arith, suc-mul}
 use Rattle.std.specs.Int.{int_shr}
 use Rattle.std.proofs.lemmas.Bool.{not-true, not-false}
-use Rattle.std.proofs.lemmas.Int.{ints}
 use Rattle.std.proofs.lemmas.Option.{none-some, same_Some}
-use Rattle.sa_dbm.specs.Bounds.{Bound, plus, lesser, AtMost, half, IsFlat}
-use Rattle.sa_dbm.specs.Tables.{Table, nodes, bar, entry, IsMatrix, IsWithin, top_table}
-use Rattle.sa_dbm.specs.Walks.{Walk, stay, go, at_once, walks}
+use Rattle.sa_dbm.specs.Bounds.{Bound, plus, lesser, half, IsFlat}
+use Rattle.sa_dbm.specs.Tables.{Table, nodes, bar, entry, IsMatrix, IsWithin}
+use Rattle.sa_dbm.specs.Walks.{Walk, stay, go}
 use Rattle.sa_dbm.specs.Closed.{shortest, has_negative_walk, rounded, has_contradiction, strengthened}
 use Rattle.sa_numbers.proofs.Sizes.{size_of_sum, size-half}
 use Rattle.sa_dbm.proofs.BoundLaws.{at_most_antisym, lesser_above, lesser_is_one, plus_swap, plus_parts, flat_halved}
-use Rattle.sa_dbm.proofs.TableLaws.{entry-table, vars-table, bar_bar, bar_below}
+use Rattle.sa_dbm.proofs.TableLaws.{bar_bar, bar_below}
 use Rattle.sa_dbm.proofs.WalkLaws.{reached_by_walk, below_each_walk, twin_totals}
 use Rattle.sa_dbm.proofs.Pivots.{none_negative_at, vars-walks}
 use Rattle.sa_dbm.proofs.Strengthening.{vars-rounded, below_half, above_half, unary_sum, strengthened_entry, vars-strengthened, length-strengthened}
@@ -45,12 +44,12 @@ within_strengthened c h = λ i j z p q e. at i j z (rw (vars-strengthened c) at 
         let above = bar_below i c.vars p in
         let below = bar_below j c.vars q in
         elim (lesser_is_one (entry c i j) (plus (below_half c i) (above_half c j))) [
-          inl own ↦ (let k = h i j z p q (sym own ∙ found) in omega arith)
+          | inl own ↦ (let k = h i j z p q (sym own ∙ found) in omega arith)
           | inr sum ↦
               (let parts = plus_parts (below_half c i) (above_half c j) z (sym sum ∙ found) in
-                let x = half_size (entry c i (bar i)) parts.0 (λ y f. h i (bar i) y p above f) parts.2 in
-                let y = half_size (entry c (bar j) j) parts.1 (λ y f. h (bar j) j y below q f) parts.3 in
-                rw parts.4 (size_of_sum parts.0 parts.1 (2 ^ 104) (2 ^ 104) x y))
+              let x = half_size (entry c i (bar i)) parts.0 (λ y f. h i (bar i) y p above f) parts.2 in
+              let y = half_size (entry c (bar j) j) parts.1 (λ y f. h (bar j) j y below q f) parts.3 in
+              rw parts.4 (size_of_sum parts.0 parts.1 (2 ^ 104) (2 ^ 104) x y))
         ]
 
 -- ---- the closed form is a matrix
@@ -84,8 +83,8 @@ module _ (m : Table) (h : IsMatrix m) (level : has_negative_walk (shortest m) �
       let c = shortest m in
       strengthened_entry c i j p q
       ∙ ap₂ lesser (twin_totals m 16 i j h (rw (vars-walks m 16) at p) (rw (vars-walks m 16) at q))
-        (plus_swap (below_half c i) (above_half c j)
-          ∙ ap₂ (λ a b. plus (half (entry c (bar j) a)) (half (entry c b (bar i)))) (sym (bar_bar j)) (sym (bar_bar i)))
+      (plus_swap (below_half c i) (above_half c j)
+      ∙ ap₂ (λ a b. plus (half (entry c (bar j) a)) (half (entry c b (bar i)))) (sym (bar_bar j)) (sym (bar_bar i)))
       ∙ sym (strengthened_entry c (bar j) (bar i) (bar_below j c.vars q) (bar_below i c.vars p))
 
   pub matrix-closed : IsMatrix (strengthened (rounded (shortest m)))

@@ -1,16 +1,13 @@
 -- From what is stored to the matrix that contracts see.
-use Rattle.std.proofs.Common.{◌≡◌, ◌≢◌, ℕ, ◌+◌, ◌*◌, ◌<◌, ◌≤◌, Bool, true, false, cond, List, ℤ, pos, length, get_or, Option, Some, None, Vec, Global, vec_len, int_lt, sym, subst, ap, ap₂, ◌∙◌, arith, FitsSigned, to_z, of_z}
-use Rattle.std.specs.Int.{w128}
+use Rattle.std.proofs.Common.{◌≡◌, ℕ, ◌+◌, ◌*◌, ◌<◌, ◌≤◌, List, ℤ, length, get_or, Vec, Global, vec_len, sym, subst, ap, ◌∙◌, arith}
 use Rattle.std.specs.Vec.{with_items}
-use Rattle.std.proofs.lemmas.Int.{to_z-of_z}
 use Rattle.std.proofs.lemmas.List.{with_items_is, get_or_default}
 use Rattle.std.proofs.lemmas.Nat.{mul-add-lt}
-use Rattle.sa_dbm.specs.Bounds.{Bound}
-use Rattle.sa_dbm.specs.Tables.{Table, nodes, entry, table, IsMatrix, top_table}
+use Rattle.sa_dbm.specs.Tables.{Table, nodes, entry, IsMatrix, top_table}
 use Rattle.sa_dbm.specs.Walks.{at_once}
 use Rattle.sa_dbm.specs.Stored.{no_bound, shown, shown_at, stored, IsStored}
 use Rattle.sa_dbm.proofs.TableLaws.{matrix-top}
-use Rattle.sa_dbm.proofs.StoredLaws.{entry-stored, shown-number, shown-none, vars-stored, stored_is}
+use Rattle.sa_dbm.proofs.StoredLaws.{entry-stored, vars-stored, stored_is}
 
 -- a place for a pair of nodes
 pub place_inside : (vars : ℕ) (m : Table) (xs : List ℤ) (i j : ℕ) → IsStored vars xs → stored vars xs ≡ m → i < nodes m → j < nodes m → i * (2 * vars) + j < length xs

@@ -1,5 +1,5 @@
 -- What is added to the bounds of one node, place by place.
-use Rattle.std.proofs.Common.{◌≡◌, ◌≢◌, ℕ, ◌+◌, ◌*◌, ◌^◌, ◌<◌, ◌≤◌, List, ℤ, unsigned_abs, Some, inl, inr, ap, sym, subst, refl, ◌∙◌, arith}
+use Rattle.std.proofs.Common.{◌≡◌, ◌≢◌, ℕ, ◌+◌, ◌*◌, ◌^◌, ◌<◌, ◌≤◌, List, ℤ, unsigned_abs, Some, inl, inr, ap, sym, subst, ◌∙◌, arith}
 use Rattle.std.proofs.lemmas.Bool.{cases_eq}
 use Rattle.std.proofs.lemmas.Option.{none-some, same_Some}
 use Rattle.sa_dbm.specs.Bounds.{Bound, plus}
@@ -34,18 +34,18 @@ module _ (n v i : ℕ) (old xs : List ℤ) (r c : Bound) (node : v < n) (inside 
     pub added_more : Added n v (i + 1) old zs r c
     added_more = record {
       row = λ k h d.
-        elim (cases_eq k i) [
-          inl same ↦ rw same (away (v * n + i) (places_differ n i v v i node inside (λ e _. differ (sym e))) ∙ here ∙ ap (λ b. plus b r) (was.others v i node inside (λ _ b. absurd (omega arith)) (λ e _. absurd (differ e))))
-          | inr other ↦ untouched v k node (omega arith) (λ _ e. other e) (λ e _. differ (sym e)) ∙ was.row k (omega arith) d
-        ];
+          elim (cases_eq k i) [
+            | inl same ↦ rw same (away (v * n + i) (places_differ n i v v i node inside (λ e _. differ (sym e))) ∙ here ∙ ap (λ b. plus b r) (was.others v i node inside (λ _ b. absurd (omega arith)) (λ e _. absurd (differ e))))
+            | inr other ↦ untouched v k node (omega arith) (λ _ e. other e) (λ e _. differ (sym e)) ∙ was.row k (omega arith) d
+          ];
       column = λ k h d.
-        elim (cases_eq k i) [
-          inl same ↦ rw same (there ∙ ap (λ b. plus b c) (apart (i * n + v) (places_differ n v i i v inside node (λ e _. differ e)) ∙ was.others i v inside node (λ e _. absurd (differ e)) (λ _ b. absurd (omega arith))))
-          | inr other ↦ untouched k v (omega arith) node (λ e _. d e) (λ e _. other e) ∙ was.column k (omega arith) d
-        ];
+          elim (cases_eq k i) [
+            | inl same ↦ rw same (there ∙ ap (λ b. plus b c) (apart (i * n + v) (places_differ n v i i v inside node (λ e _. differ e)) ∙ was.others i v inside node (λ e _. absurd (differ e)) (λ _ b. absurd (omega arith))))
+            | inr other ↦ untouched k v (omega arith) node (λ e _. d e) (λ e _. other e) ∙ was.column k (omega arith) d
+          ];
       others = λ p q h k e f.
-        untouched p q h k (λ a b. differ (sym b ∙ e a (omega arith))) (λ a b. differ (sym a ∙ f b (omega arith)))
-        ∙ was.others p q h k (λ a b. e a (omega arith)) (λ a b. f a (omega arith));
+          untouched p q h k (λ a b. differ (sym b ∙ e a (omega arith))) (λ a b. differ (sym a ∙ f b (omega arith)))
+          ∙ was.others p q h k (λ a b. e a (omega arith)) (λ a b. f a (omega arith));
     }
 
 -- all other nodes are done
@@ -79,12 +79,12 @@ pub added_summable : (n v : ℕ) (old xs : List ℤ) (r c : Bound) → Added n v
     → ((i j : ℕ) → i < n → j < n → Small (shown_at old (i * n + j))) → (i j : ℕ) → i < n → j < n → IsSummable (shown_at xs (i * n + j))
 added_summable n v old xs r c h b small_r small_c small i j p q =
     elim (cases_eq i v) [
-      inl e ↦ elim (cases_eq j v) [
-        inl f ↦ kept i j p q (λ _. f) (λ _. e)
+      | inl e ↦ elim (cases_eq j v) [
+        | inl f ↦ kept i j p q (λ _. f) (λ _. e)
         | inr g ↦ subst (λ k. IsSummable (shown_at xs (k * n + j))) (sym e) (changed (v * n + j) r (h.row j q g) (small v j b q) small_r)
       ]
       | inr d ↦ elim (cases_eq j v) [
-        inl f ↦ subst (λ k. IsSummable (shown_at xs (i * n + k))) (sym f) (changed (i * n + v) c (h.column i p d) (small i v p b) small_c)
+        | inl f ↦ subst (λ k. IsSummable (shown_at xs (i * n + k))) (sym f) (changed (i * n + v) c (h.column i p d) (small i v p b) small_c)
         | inr g ↦ kept i j p q (λ e. absurd (d e)) (λ f. absurd (g f))
       ]
     ]

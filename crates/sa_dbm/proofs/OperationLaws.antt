@@ -1,16 +1,15 @@
 -- The operations on stored tables, place by place.
-use Rattle.std.proofs.Common.{◌≡◌, ◌≢◌, ℕ, zero, suc, ◌+◌, ◌*◌, ◌/◌, ◌%◌, ◌^◌, ◌<◌, ◌≤◌, ◌==◌, ◌&&◌, ◌||◌, Bool, true, false, cond, List, ℤ, pos, ◌+ℤ◌, ◌-ℤ◌, neg_ℤ, length, unsigned_abs, int_lt, Option, Some, None, option_map, MatchBool, ◌⊎◌, ◌↔◌, inl, inr, ap, ap₂, sym, subst, subst₂, refl, ◌∙◌, arith}
+use Rattle.std.proofs.Common.{◌≡◌, ◌≢◌, ℕ, zero, suc, ◌+◌, ◌*◌, ◌/◌, ◌%◌, ◌<◌, ◌≤◌, ◌==◌, ◌&&◌, ◌||◌, Bool, true, false, cond, List, ℤ, pos, ◌+ℤ◌, ◌-ℤ◌, neg_ℤ, length, Some, None, option_map, MatchBool, ◌↔◌, inl, inr, ap, ap₂, sym, subst, subst₂, refl, ◌∙◌, arith}
 use Rattle.std.specs.List.{range_with_len, list_all}
-use Rattle.std.proofs.lemmas.Bool.{cases_eq, cases_Bool, eq-eqb, ne_eqb, eqb-true, eqb-false, and_from, and_parts, both_ways, false≢true, or_left, or_right, or_cases, false_from_ne_true}
+use Rattle.std.proofs.lemmas.Bool.{cases_eq, eq-eqb, ne_eqb, eqb-true, eqb-false, and_from, and_parts, both_ways, false≢true, false_from_ne_true}
 use Rattle.std.proofs.lemmas.Nat.{div-add-mod', div_below, mod_below, mul-add-lt}
 use Rattle.std.proofs.lemmas.Int.{ints}
 use Rattle.sa_dbm.specs.Bounds.{Bound, plus, lesser, greater, at_most, AtMost}
-use Rattle.sa_dbm.specs.Tables.{Table, nodes, bar, entry, table, tightened, joined, is_below, IsBelow, forgotten, rise, shifted, top_table}
-use Rattle.sa_dbm.specs.Walks.{at_once}
-use Rattle.sa_dbm.specs.Stored.{shown, shown_at, stored}
+use Rattle.sa_dbm.specs.Tables.{bar, entry, tightened, joined, is_below, IsBelow, forgotten, rise, shifted}
+use Rattle.sa_dbm.specs.Stored.{shown_at, stored}
 use Rattle.sa_dbm.proofs.BoundLaws.{lesser_above, lesser_right, plus_none, plus-zero_right}
-use Rattle.sa_dbm.proofs.TableLaws.{square_some, at_or_twin, bar_bar, bar_below, bar_differs, bar-half, bar-odd}
-use Rattle.sa_dbm.proofs.StoredLaws.{entry-stored, at_most_test, at_most_fails, stored_is, vars-stored, places_differ}
+use Rattle.sa_dbm.proofs.TableLaws.{square_some, bar_below}
+use Rattle.sa_dbm.proofs.StoredLaws.{entry-stored, at_most_test, at_most_fails, stored_is, places_differ}
 use Rattle.sa_dbm.proofs.NodeLaws.{Added}
 
 -- a test on two places, as a fact
@@ -31,7 +30,7 @@ module _ (vars i j : ℕ) (xs ys zs : List ℤ) (c : Bound) (row : i < 2 * vars)
   lowered_there : shown_at zs (bar j * (2 * vars) + bar i) ≡ lesser (shown_at xs (bar j * (2 * vars) + bar i)) c
   lowered_there =
       elim (cases_eq (bar j * (2 * vars) + bar i) (i * (2 * vars) + j)) [
-        inl same ↦ there ∙ ap (λ k. lesser (shown_at ys k) c) same ∙ ap (λ b. lesser b c) here ∙ twice (shown_at xs (i * (2 * vars) + j)) ∙ ap (λ k. lesser (shown_at xs k) c) (sym same)
+        | inl same ↦ there ∙ ap (λ k. lesser (shown_at ys k) c) same ∙ ap (λ b. lesser b c) here ∙ twice (shown_at xs (i * (2 * vars) + j)) ∙ ap (λ k. lesser (shown_at xs k) c) (sym same)
         | inr other ↦ there ∙ ap (λ b. lesser b c) (others (bar j * (2 * vars) + bar i) other)
       ]
     where
@@ -56,8 +55,8 @@ pub tightened_stored : (vars i j : ℕ) (xs ys zs : List ℤ) (c : ℤ) → i < 
 unfolding tightened stored
 tightened_stored vars i j xs ys zs c row column whole here others there away =
     stored_is vars zs (λ p q. cond (p == i && q == j || p == bar j && q == bar i) (lesser (entry (stored vars xs) p q) (Some c)) (entry (stored vars xs) p q)) whole (λ p q a b.
-      lowered_at vars i j xs ys zs (Some c) row column here others there away p q a b (p == i && q == j) refl (p == bar j && q == bar i) refl
-      ∙ ap (λ e. cond (p == i && q == j || p == bar j && q == bar i) (lesser e (Some c)) e) (sym (entry-stored vars xs p q)))
+    lowered_at vars i j xs ys zs (Some c) row column here others there away p q a b (p == i && q == j) refl (p == bar j && q == bar i) refl
+    ∙ ap (λ e. cond (p == i && q == j || p == bar j && q == bar i) (lesser e (Some c)) e) (sym (entry-stored vars xs p q)))
 
 -- ---- two tables joined
 
@@ -66,7 +65,7 @@ pub joined_stored : (vars : ℕ) (xs ys zs : List ℤ) → length xs ≡ 2 * var
 unfolding joined stored
 joined_stored vars xs ys zs square whole same =
     stored_is vars zs (λ i j. greater (entry (stored vars xs) i j) (entry (stored vars ys) i j)) whole (λ i j p q.
-      same (i * (2 * vars) + j) (omega (arith, mul-add-lt i (2 * vars) j (2 * vars) p q)) ∙ sym (ap₂ greater (entry-stored vars xs i j) (entry-stored vars ys i j)))
+    same (i * (2 * vars) + j) (omega (arith, mul-add-lt i (2 * vars) j (2 * vars) p q)) ∙ sym (ap₂ greater (entry-stored vars xs i j) (entry-stored vars ys i j)))
 
 -- ---- both nodes of a variable
 
@@ -79,7 +78,7 @@ data Place (var i : ℕ) : Type 0 where
 place_of : (var i : ℕ) → Place var i
 place_of var i =
     elim (cases_eq (i / 2) var) [
-      inl own ↦ elim (cases_eq (i % 2) 0) [ inl even ↦ upper (omega arith) | inr odd ↦ lower (omega arith) ]
+      | inl own ↦ elim (cases_eq (i % 2) 0) [ inl even ↦ upper (omega arith) | inr odd ↦ lower (omega arith) ]
       | inr other ↦ outside other
     ]
 
@@ -170,7 +169,7 @@ pub forgotten_stored : (vars var : ℕ) (xs ys zs : List ℤ) → var < vars →
 unfolding forgotten stored
 forgotten_stored vars var xs ys zs inside whole first second =
     stored_is vars zs (λ i j. cond (i == j) (entry (stored vars xs) i j) (cond (i / 2 == var || j / 2 == var) None (entry (stored vars xs) i j))) whole (λ i j p q.
-      at i j p q (i == j) refl ∙ ap (λ e. cond (i == j) e (cond (i / 2 == var || j / 2 == var) None e)) (sym (entry-stored vars xs i j)))
+    at i j p q (i == j) refl ∙ ap (λ e. cond (i == j) e (cond (i / 2 == var || j / 2 == var) None e)) (sym (entry-stored vars xs i j)))
   where
     cleared : (t u : Bool) (b : Bound) → plus (plus b (cond t None (Some (pos 0)))) (cond u None (Some (pos 0))) ≡ cond (t || u) None b
     cleared true true b = plus_none (plus b None)
@@ -192,7 +191,7 @@ pub shifted_stored : (vars var : ℕ) (xs ys zs : List ℤ) (c : ℤ) → var < 
 unfolding shifted stored
 shifted_stored vars var xs ys zs c inside whole first second =
     stored_is vars zs (λ i j. option_map (λ z. z +ℤ (rise var c j -ℤ rise var c i)) (entry (stored vars xs) i j)) whole (λ i j p q.
-      at i j p q (i == j) refl ∙ ap (λ e. option_map (λ z. z +ℤ (rise var c j -ℤ rise var c i)) e) (sym (entry-stored vars xs i j)))
+    at i j p q (i == j) refl ∙ ap (λ e. option_map (λ z. z +ℤ (rise var c j -ℤ rise var c i)) e) (sym (entry-stored vars xs i j)))
   where
     still : (b : Bound) (r : ℤ) → b ≡ option_map (λ z. z +ℤ (r -ℤ r)) b
     still None r = refl
@@ -220,7 +219,7 @@ all_from a zero p f e low high = absurd (omega arith)
 all_from a (suc n) p f e low high =
     let parts = and_parts (f a) (list_all f (range_with_len (a + 1) n)) e in
     elim (cases_eq p a) [
-      inl same ↦ subst (λ k. f k ≡ true) (sym same) parts.0
+      | inl same ↦ subst (λ k. f k ≡ true) (sym same) parts.0
       | inr other ↦ all_from (a + 1) n p f parts.1 (omega arith) (omega arith)
     ]
 

@@ -1,16 +1,13 @@
 -- The totals that come of taking each node in turn as a pivot, and that they are the least ones over walks of at
 -- most 16 arcs. R. W. Floyd, Algorithm 97: Shortest path, Communications of the ACM 5 (1962).
-use Rattle.std.proofs.Common.{◌≡◌, ℕ, zero, suc, ◌+◌, ◌*◌, ◌^◌, ◌<◌, ◌≤◌, Bool, true, false, ◌||◌, ℤ, pos, negsuc, ◌+ℤ◌, ◌≤ℤ◌, ◌<ℤ◌, unsigned_abs, int_lt, List, [], ◌∷◌, length, Option, Some, None, ◌⊎◌, inl, inr, ap, ap₂, sym, subst, refl, ◌∙◌, arith, pow-suc}
+use Rattle.std.proofs.Common.{◌≡◌, ℕ, zero, suc, ◌+◌, ◌*◌, ◌^◌, ◌<◌, ◌≤◌, Bool, true, false, ℤ, pos, ◌+ℤ◌, unsigned_abs, length, Some, None, inl, inr, sym, subst, refl, ◌∙◌, arith, pow-suc}
 use Rattle.std.specs.List.{range_with_len, list_any}
 use Rattle.std.proofs.lemmas.Bool.{cases_eq, cases_Bool, or_from, or_left, or_right, both_ways, true_from_ne_false}
-use Rattle.std.proofs.lemmas.Option.{none-some, same_Some}
-use Rattle.std.proofs.lemmas.Int.{ints}
 use Rattle.sa_dbm.specs.Bounds.{Bound, plus, lesser, AtMost, IsFlat, is_negative, least}
 use Rattle.sa_dbm.specs.Tables.{Table, nodes, entry, table, IsMatrix, IsWithin}
 use Rattle.sa_dbm.specs.Walks.{Walk, stay, go, at_once, one_more, walks}
 use Rattle.sa_dbm.proofs.TableLaws.{length-table}
 use Rattle.sa_dbm.specs.Closed.{some_negative, shortest, has_negative_walk}
-use Rattle.sa_numbers.proofs.Order.{≤ℤ_refl}
 use Rattle.sa_numbers.proofs.Sizes.{size_of_sum}
 use Rattle.sa_dbm.proofs.BoundLaws.{at_most_refl, at_most_trans, at_most_antisym, lesser_left, lesser_right, lesser_greatest, lesser_is_one, plus_mono, plus_zero_left, plus-zero_right, plus_group, plus_parts}
 use Rattle.sa_dbm.proofs.WalkLaws.{one_arc, joined_walks, reached_by_walk, below_each_walk, at_most_by_numbers, NoDescent, below_every_walk}
@@ -26,7 +23,7 @@ unfolding through
 through_walk m zero i j t b p q e = (1, one_arc m i j t p q e)
 through_walk m (suc k) i j t b p q e =
     elim (lesser_is_one (through m k i j) (plus (through m k i k) (through m k k j))) [
-      inl before ↦ through_walk m k i j t (omega arith) p q (sym before ∙ e)
+      | inl before ↦ through_walk m k i j t (omega arith) p q (sym before ∙ e)
       | inr pivot ↦
           let parts = plus_parts (through m k i k) (through m k k j) t (sym pivot ∙ e) in
           let to = through_walk m k i k parts.0 (omega arith) p (omega arith) parts.2 in
@@ -75,8 +72,8 @@ module _ (ij ih hj ik kj kh hk kk : Bound) (flat : IsFlat kk) (old : AtMost ij (
   both_by_pivot : AtMost new (plus (plus ik kh) (plus hk kj))
   both_by_pivot =
       by_pivot _ (rw (plus_group ik kh (plus hk kj), ← plus_group kh hk kj)
-        (plus_mono ik ik kj (plus (plus kh hk) kj) (at_most_refl ik)
-          (at_most_trans kj (plus kk kj) _ (flat_right kk kj flat) (plus_mono kk (plus kh hk) kj kj round (at_most_refl kj)))))
+      (plus_mono ik ik kj (plus (plus kh hk) kj) (at_most_refl ik)
+      (at_most_trans kj (plus kk kj) _ (flat_right kk kj flat) (plus_mono kk (plus kh hk) kj kj round (at_most_refl kj)))))
 
   by_parts : AtMost new (plus (lesser ih (plus ik kh)) (lesser hj (plus hk kj)))
   by_parts =
@@ -92,10 +89,10 @@ through_pivots m (suc k) flat h i j b =
     let t = through m k in
     let kk = flat k (omega arith) in
     elim (cases_eq h k) [
-      inl same ↦
+      | inl same ↦
           rw same (at_most_trans _ (plus (t i k) (t k j)) _ (lesser_right (t i j) (plus (t i k) (t k j)))
-            (plus_mono (t i k) _ (t k j) _ (lesser_greatest (t i k) (t i k) (plus (t i k) (t k k)) (at_most_refl (t i k)) (flat_left (t i k) (t k k) kk))
-              (lesser_greatest (t k j) (t k j) (plus (t k k) (t k j)) (at_most_refl (t k j)) (flat_right (t k k) (t k j) kk))))
+          (plus_mono (t i k) _ (t k j) _ (lesser_greatest (t i k) (t i k) (plus (t i k) (t k k)) (at_most_refl (t i k)) (flat_left (t i k) (t k k) kk))
+          (lesser_greatest (t k j) (t k j) (plus (t k k) (t k j)) (at_most_refl (t k j)) (flat_right (t k k) (t k j) kk))))
       | inr other ↦
           let old = through_pivots m k (λ l c. flat l (omega arith)) in
           let c : h < k = omega arith in
@@ -126,7 +123,7 @@ through_all m h pivots flat i j p q =
     at_most_antisym (through m n i j) (entry (shortest m) i j)
     (at_most_by_numbers (through m n i j) (entry (shortest m) i j) (λ t e. below_walks m pivots h.diagonal p (reached_by_walk m 16 i j t p q e).2))
     (at_most_by_numbers (entry (shortest m) i j) (through m n i j)
-      (λ t e. below_every_walk m h.few (no_descent m h pivots flat) p q (through_walk m n i j t (omega arith) p q e).1))
+    (λ t e. below_every_walk m h.few (no_descent m h pivots flat) p q (through_walk m n i j t (omega arith) p q e).1))
 
 -- ---- negative entries
 
@@ -142,7 +139,7 @@ any_from : (a n i : ℕ) (f : ℕ → Bool) → a ≤ i → i < a + n → f i �
 any_from a zero i f low high e = absurd (omega arith)
 any_from a (suc n) i f low high e =
     elim (cases_eq i a) [
-      inl same ↦ or_left (f a) (list_any f (range_with_len (a + 1) n)) (subst (λ k. f k ≡ true) same e)
+      | inl same ↦ or_left (f a) (list_any f (range_with_len (a + 1) n)) (subst (λ k. f k ≡ true) same e)
       | inr other ↦ or_right (f a) (list_any f (range_with_len (a + 1) n)) (any_from (a + 1) n i f (omega arith) (omega arith) e)
     ]
 
@@ -160,7 +157,7 @@ none_negative n f h = none_from 0 n (λ k. is_negative (f k)) (λ i low high. te
 pub none_negative_at : (n : ℕ) (f : ℕ → Bound) → some_negative n f ≡ false → (i : ℕ) → i < n → IsFlat (f i)
 none_negative_at n f e i p =
     elim (cases_Bool (is_negative (f i))) [
-      inl yes' ↦ absurd (both_ways (some_negative n f) e (some_negative_at n i f p yes'))
+      | inl yes' ↦ absurd (both_ways (some_negative n f) e (some_negative_at n i f p yes'))
       | inr no' ↦ flat_from_test (f i) no'
     ]
 
@@ -185,10 +182,10 @@ pub negative_walk : (m : Table) (k i : ℕ) → IsMatrix m → k ≤ nodes m →
 unfolding has_negative_walk
 negative_walk m k i h b p e =
     true_from_ne_false _ (λ f.
-      let level : (l : ℕ) → l < nodes m → IsFlat (entry (shortest m) l l) = λ l q. none_negative_at _ (λ i. entry (shortest m) i i) f l (subst (λ v. l < 2 * v) (sym (vars-walks m 16)) q) in
-      let flat : NoDescent m = λ l a t q c w. at_most_trans (Some (pos 0)) (entry (shortest m) l l) (Some t) (level l q) (below_each_walk m 16 c q q w) in
-      let lowest : AtMost (entry (shortest m) i i) (through m k i i) = at_most_by_numbers (entry (shortest m) i i) (through m k i i) (λ t e. below_every_walk m h.few flat p p (through_walk m k i i t b p p e).1) in
-      both_ways _ (test_from_flat (through m k i i) (at_most_trans (Some (pos 0)) (entry (shortest m) i i) (through m k i i) (level i p) lowest)) e)
+    let level : (l : ℕ) → l < nodes m → IsFlat (entry (shortest m) l l) = λ l q. none_negative_at _ (λ i. entry (shortest m) i i) f l (subst (λ v. l < 2 * v) (sym (vars-walks m 16)) q) in
+    let flat : NoDescent m = λ l a t q c w. at_most_trans (Some (pos 0)) (entry (shortest m) l l) (Some t) (level l q) (below_each_walk m 16 c q q w) in
+    let lowest : AtMost (entry (shortest m) i i) (through m k i i) = at_most_by_numbers (entry (shortest m) i i) (through m k i i) (λ t e. below_every_walk m h.few flat p p (through_walk m k i i t b p p e).1) in
+    both_ways _ (test_from_flat (through m k i i) (at_most_trans (Some (pos 0)) (entry (shortest m) i i) (through m k i i) (level i p) lowest)) e)
 
 -- ---- how large the totals get
 
@@ -197,7 +194,7 @@ unfolding through
 through_within m limit zero i j t h b p q e = omega (arith, h i j t p q e)
 through_within m limit (suc k) i j t h b p q e =
     elim (lesser_is_one (through m k i j) (plus (through m k i k) (through m k k j))) [
-      inl before ↦ twice (omega (arith, through_within m limit k i j t h (omega arith) p q (sym before ∙ e)))
+      | inl before ↦ twice (omega (arith, through_within m limit k i j t h (omega arith) p q (sym before ∙ e)))
       | inr pivot ↦
           let parts = plus_parts (through m k i k) (through m k k j) t (sym pivot ∙ e) in
           let to = through_within m limit k i k parts.0 h (omega arith) p (omega arith) parts.2 in

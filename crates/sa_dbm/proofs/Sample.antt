@@ -1,7 +1,6 @@
 -- The closed form of two variables with x + y <= 1 and x - y <= 0, and then with x >= 1 besides.
-use Rattle.std.proofs.Common.{◌≡◌, refl, pos, negsuc, Option, Some, None, option_map}
-use Rattle.sa_dbm.specs.Bounds.{Bound, at_most}
-use Rattle.sa_dbm.specs.Tables.{Table, bar, top_table, tightened, entry, table, forgotten, shifted, joined, is_below}
+use Rattle.std.proofs.Common.{◌≡◌, refl, pos, negsuc, Some, None, option_map}
+use Rattle.sa_dbm.specs.Tables.{Table, bar, top_table, tightened, entry, table}
 use Rattle.sa_dbm.specs.Walks.{walks, one_more}
 use Rattle.sa_dbm.specs.Closed.{closed_form, walked_form, tight_form, has_negative_walk, has_contradiction, rounded, strengthened}
 

@@ -1,11 +1,10 @@
 -- Stored totals, from pivot to pivot.
-use Rattle.std.proofs.Common.{◌≡◌, ℕ, zero, suc, ◌+◌, ◌*◌, ◌^◌, ◌<◌, ◌≤◌, Bool, true, false, not, MatchBool, IsTrue, ℤ, unsigned_abs, List, length, get_or, pos, FitsSigned, to_z, of_z, Some, ap, ap₂, sym, subst, refl, ◌∙◌, arith, add-one, pow_mono}
+use Rattle.std.proofs.Common.{◌≡◌, ℕ, ◌+◌, ◌*◌, ◌^◌, ◌<◌, ◌≤◌, Bool, true, false, not, MatchBool, ℤ, List, length, get_or, pos, FitsSigned, to_z, of_z, ap, ap₂, sym, subst, ◌∙◌, arith, add-one, pow_mono}
 use Rattle.std.specs.Int.{w128}
 use Rattle.std.proofs.lemmas.List.{length-map}
 use Rattle.std.proofs.lemmas.Nat.{mul-add-lt}
-use Rattle.sa_dbm.specs.Bounds.{Bound, plus, lesser, IsFlat, is_negative}
-use Rattle.sa_dbm.specs.Tables.{Table, nodes, entry, table, IsMatrix, IsWithin}
-use Rattle.sa_dbm.specs.Walks.{walks, one_more}
+use Rattle.sa_dbm.specs.Bounds.{plus, lesser, IsFlat, is_negative}
+use Rattle.sa_dbm.specs.Tables.{Table, IsMatrix, IsWithin}
 use Rattle.sa_dbm.specs.Closed.{shortest, has_negative_walk}
 use Rattle.sa_dbm.specs.Stored.{shown, shown_at, stored, IsSummable}
 use Rattle.sa_dbm.proofs.TableLaws.{same_tables}

@@ -1,9 +1,9 @@
 -- How large the bounds are that the operations leave.
-use Rattle.std.proofs.Common.{◌≡◌, ℕ, ◌+◌, ◌*◌, ◌/◌, ◌%◌, ◌^◌, ◌<◌, ◌≤◌, ◌==◌, ◌&&◌, ◌||◌, Bool, true, false, cond, ℤ, pos, neg_ℤ, ◌+ℤ◌, ◌-ℤ◌, unsigned_abs, Option, Some, None, option_map, ◌⊎◌, inl, inr, refl, sym, subst, ◌∙◌, arith}
+use Rattle.std.proofs.Common.{◌≡◌, ℕ, ◌+◌, ◌*◌, ◌/◌, ◌%◌, ◌<◌, ◌≤◌, ◌==◌, ◌&&◌, ◌||◌, Bool, true, false, cond, ℤ, pos, neg_ℤ, ◌+ℤ◌, ◌-ℤ◌, unsigned_abs, Some, None, option_map, ◌⊎◌, inl, inr, refl, sym, subst, ◌∙◌, arith}
 use Rattle.std.specs.Int.{int_max}
 use Rattle.std.proofs.lemmas.Option.{none-some, same_Some}
 use Rattle.sa_dbm.specs.Bounds.{Bound, lesser, greater}
-use Rattle.sa_dbm.specs.Tables.{Table, nodes, bar, entry, table, IsWithin, top_table, tightened, joined, forgotten, rise, shifted}
+use Rattle.sa_dbm.specs.Tables.{Table, bar, entry, table, IsWithin, top_table, tightened, joined, forgotten, rise, shifted}
 use Rattle.sa_dbm.specs.Walks.{at_once}
 use Rattle.sa_numbers.proofs.Sizes.{size_of_sum, size-negated}
 use Rattle.sa_dbm.proofs.BoundLaws.{lesser_is_one}

@@ -1,20 +1,18 @@
 -- What points lie in: that a closure keeps them, and what the other operations do to them.
-use Rattle.std.proofs.Common.{◌≡◌, ◌≢◌, ℕ, zero, suc, ◌+◌, ◌-◌, ◌*◌, ◌/◌, ◌%◌, ◌<◌, ◌≤◌, ◌==◌, ◌||◌, ◌&&◌, Bool, true, false, cond, ℤ, pos, neg_ℤ, ◌+ℤ◌, ◌-ℤ◌, ◌≤ℤ◌, List, Option, Some, None, option_map, ◌⊎◌, ◌↔◌, inl, inr, ap, ap₂, sym, subst, subst₂, refl, ◌∙◌, arith}
-use Rattle.std.specs.Int.{int_shr}
+use Rattle.std.proofs.Common.{◌≡◌, ◌≢◌, ℕ, zero, suc, ◌-◌, ◌*◌, ◌/◌, ◌%◌, ◌<◌, ◌==◌, ◌||◌, ◌&&◌, Bool, true, false, cond, ℤ, pos, neg_ℤ, ◌+ℤ◌, ◌-ℤ◌, ◌≤ℤ◌, Some, None, option_map, ◌⊎◌, ◌↔◌, inl, inr, ap, ap₂, sym, subst, subst₂, refl, ◌∙◌, arith}
 use Rattle.std.proofs.lemmas.Bool.{cases_eq, cases_Bool, eq-eqb, ne_eqb, eqb-true, eqb-false, or_left, or_cases, or_parts, and_from, and_parts}
 use Rattle.std.proofs.lemmas.Option.{none-some, same_Some}
 use Rattle.std.proofs.lemmas.Int.{ints}
 use Rattle.sa_dbm.specs.declared.closing.Closing.{Closing}
 use Rattle.sa_dbm.specs.declared.closing.Closing.TheVariants.{Empty, Closed}
-use Rattle.sa_dbm.specs.Bounds.{Bound, plus, lesser, greater, AtMost, half, even, IsFlat}
+use Rattle.sa_dbm.specs.Bounds.{Bound, plus, lesser, greater, AtMost, half, even}
 use Rattle.sa_dbm.specs.Tables.{Table, nodes, bar, entry, table, IsBelow, tightened, joined, forgotten, rise, shifted}
-use Rattle.sa_dbm.specs.Walks.{Walk, stay, go, walks}
+use Rattle.sa_dbm.specs.Walks.{Walk, stay, go}
 use Rattle.sa_dbm.specs.Points.{Point, value, LiesIn, moved, with_value}
-use Rattle.sa_dbm.specs.Closed.{shortest, some_negative, has_negative_walk, rounded, has_contradiction, strengthened, tight_form, walked_form, closed_form, ClosesTo, KeepsPoints}
+use Rattle.sa_dbm.specs.Closed.{shortest, has_negative_walk, rounded, has_contradiction, strengthened, tight_form, walked_form, closed_form, ClosesTo, KeepsPoints}
 use Rattle.sa_numbers.proofs.Halves.{half-greatest}
-use Rattle.sa_numbers.proofs.Order.{≤ℤ_refl}
-use Rattle.sa_dbm.proofs.BoundLaws.{at_most_refl, at_most_trans, lesser_left, lesser_right, lesser_greatest, greater_left, greater_right, plus_mono, even_below}
-use Rattle.sa_dbm.proofs.TableLaws.{entry-table, vars-table, at_or_twin, bar_bar, bar_below, bar-half, bar-odd}
+use Rattle.sa_dbm.proofs.BoundLaws.{at_most_trans, lesser_left, lesser_right, lesser_greatest, greater_left, greater_right, plus_mono}
+use Rattle.sa_dbm.proofs.TableLaws.{entry-table, vars-table, at_or_twin, bar_below, bar-half, bar-odd}
 use Rattle.sa_dbm.proofs.WalkLaws.{one_arc, reached_by_walk, below_each_walk, at_most_by_numbers}
 use Rattle.sa_dbm.proofs.Pivots.{none_negative, vars-walks}
 use Rattle.sa_dbm.proofs.Strengthening.{rounded_unary, rounded_other, vars-rounded, below_half, above_half, strengthened_entry, vars-strengthened}
@@ -74,7 +72,7 @@ lies-rounded p c l = λ i j q r. at i j (rw (vars-rounded c) at q) (rw (vars-rou
     at : (i j : ℕ) → i < nodes c → j < nodes c → AtMost (between p i j) (entry (rounded c) i j)
     at i j q r =
         elim (cases_eq j (bar i)) [
-          inl e ↦ subst (AtMost (between p i j)) (sym (rounded_unary c i j q r e)) (below_even p i j (entry c i j) e (l i j q r))
+          | inl e ↦ subst (AtMost (between p i j)) (sym (rounded_unary c i j q r e)) (below_even p i j (entry c i j) e (l i j q r))
           | inr n ↦ subst (AtMost (between p i j)) (sym (rounded_other c i j q r n)) (l i j q r)
         ]
 
@@ -120,7 +118,7 @@ unfolding has_contradiction
 agreed p r l =
     none_negative (nodes r) (λ i. plus (entry r i (bar i)) (entry r (bar i) i))
     (λ i q. subst (λ d. AtMost (Some d) (plus (entry r i (bar i)) (entry r (bar i) i))) (none (value p i) (value p (bar i)))
-      (plus_mono (between p i (bar i)) (entry r i (bar i)) (between p (bar i) i) (entry r (bar i) i) (l i (bar i) q (bar_below i r.vars q)) (l (bar i) i (bar_below i r.vars q) q)))
+    (plus_mono (between p i (bar i)) (entry r i (bar i)) (between p (bar i) i) (entry r (bar i) i) (l i (bar i) q (bar_below i r.vars q)) (l (bar i) i (bar_below i r.vars q) q)))
   where
     none : (v w : ℤ) → (w -ℤ v) +ℤ (v -ℤ w) ≡ pos 0
     none v w = omega (arith, ints)
@@ -143,9 +141,9 @@ pub closed_parts : (m after : Table) → closed_form m ≡ Some after
     → (has_negative_walk (shortest m) ≡ false) × (has_contradiction (rounded (shortest m)) ≡ false) × (strengthened (rounded (shortest m)) ≡ after)
 closed_parts m after e =
     elim (cases_Bool (has_negative_walk (shortest m))) [
-      inl walk ↦ absurd (none-some after (sym (closed-negative m walk) ∙ e))
+      | inl walk ↦ absurd (none-some after (sym (closed-negative m walk) ∙ e))
       | inr none ↦ elim (cases_Bool (has_contradiction (rounded (shortest m)))) [
-        inl found ↦ absurd (none-some after (sym (closed-contradiction m none found) ∙ e))
+        | inl found ↦ absurd (none-some after (sym (closed-contradiction m none found) ∙ e))
         | inr clear ↦ (none, clear, same_Some _ after (sym (closed-strengthened m none clear) ∙ e))
       ]
     ]
@@ -175,7 +173,7 @@ closed_below m = λ i j q r.
     let e : j < nodes m = rw (vars-walks m 16) at b in
     rw (strengthened_entry c i j a b)
     (at_most_trans _ (entry c i j) (entry m i j) (lesser_left (entry c i j) (plus (below_half c i) (above_half c j)))
-      (at_most_by_numbers (entry c i j) (entry m i j) (λ t f. below_each_walk m 16 (omega arith) d e (one_arc m i j t d e f))))
+    (at_most_by_numbers (entry c i j) (entry m i j) (λ t f. below_each_walk m 16 (omega arith) d e (one_arc m i j t d e f))))
 
 -- a closure loses no point, and wins none
 pub points_kept : (m : Table) (answer : Closing) (after : Table) → ClosesTo m answer after → KeepsPoints m answer after
@@ -235,10 +233,10 @@ module _ (m : Table) (i j : ℕ) (c : ℤ) (inside : i < nodes m) (within : j < 
       met : (a b : ℕ) → at_or_twin i j a b ≡ true → AtMost (between p a b) (Some c)
       met a b e =
           elim (or_cases (a == i && b == j) (a == bar j && b == bar i) e) [
-            inl own ↦ (let t = and_parts (a == i) (b == j) own in subst₂ (λ x y. AtMost (between p x y) (Some c)) (sym (eqb-true a i t.0)) (sym (eqb-true b j t.1)) h)
+            | inl own ↦ (let t = and_parts (a == i) (b == j) own in subst₂ (λ x y. AtMost (between p x y) (Some c)) (sym (eqb-true a i t.0)) (sym (eqb-true b j t.1)) h)
             | inr twin ↦
                 (let t = and_parts (a == bar j) (b == bar i) twin in
-                  turned (value p i) (value p j) (value p b) (value p a) (ap (value p) (eqb-true b (bar i) t.1) ∙ value-bar p i) (ap (value p) (eqb-true a (bar j) t.0) ∙ value-bar p j) h)
+                turned (value p i) (value p j) (value p b) (value p a) (ap (value p) (eqb-true b (bar i) t.1) ∙ value-bar p i) (ap (value p) (eqb-true a (bar j) t.0) ∙ value-bar p j) h)
           ]
 
       at : (a b : ℕ) → AtMost (between p a b) (entry m a b) → (t : Bool) → at_or_twin i j a b ≡ t → AtMost (between p a b) (new a b)
@@ -301,10 +299,10 @@ pub points_shifted : (m : Table) (var : ℕ) (c : ℤ) (p : Point) → LiesIn p 
 unfolding shifted
 points_shifted m var c p = (
   λ l. lies_in_table (moved p var c) m.vars new (λ i j q r.
-    moves (value p i) (value p j) (value (moved p var c) i) (value (moved p var c) j) (rise var c i) (rise var c j) (value-moved p var c i) (value-moved p var c j) (entry m i j) (l i j q r)),
+      moves (value p i) (value p j) (value (moved p var c) i) (value (moved p var c) j) (rise var c i) (rise var c j) (value-moved p var c i) (value-moved p var c j) (entry m i j) (l i j q r)),
   λ l i j q r.
-    moves_back (value p i) (value p j) (value (moved p var c) i) (value (moved p var c) j) (rise var c i) (rise var c j) (value-moved p var c i) (value-moved p var c j) (entry m i j)
-    (of_table (moved p var c) m.vars new l i j q r)
+      moves_back (value p i) (value p j) (value (moved p var c) i) (value (moved p var c) j) (rise var c i) (rise var c j) (value-moved p var c i) (value-moved p var c j) (entry m i j)
+      (of_table (moved p var c) m.vars new l i j q r),
 )
   where
     new : ℕ → ℕ → Bound

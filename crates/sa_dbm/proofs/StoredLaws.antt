@@ -1,5 +1,5 @@
 -- Stored numbers and the bounds that they stand for.
-use Rattle.std.proofs.Common.{◌≡◌, ◌≢◌, ℕ, zero, suc, ◌+◌, ◌*◌, ◌^◌, ◌<◌, ◌≤◌, Bool, true, false, cond, ℤ, pos, negsuc, neg_ℤ, ◌+ℤ◌, ◌-ℤ◌, ◌≤ℤ◌, ◌<ℤ◌, unsigned_abs, int_lt, int_le, not, List, [], ◌∷◌, map, length, get_or, set, take, drop, Option, Some, None, ◌⊎◌, inl, inr, ap, ap₂, sym, subst, refl, ◌∙◌, arith, FitsSigned, to_z, of_z, rules, below_more}
+use Rattle.std.proofs.Common.{◌≡◌, ◌≢◌, ℕ, zero, suc, ◌+◌, ◌*◌, ◌^◌, ◌<◌, ◌≤◌, Bool, true, false, ℤ, pos, negsuc, neg_ℤ, ◌+ℤ◌, ◌-ℤ◌, unsigned_abs, int_lt, int_le, not, List, [], ◌∷◌, map, length, get_or, set, take, drop, Some, None, ◌⊎◌, inl, inr, ap, ap₂, sym, refl, ◌∙◌, arith, FitsSigned, to_z, of_z, rules, below_more}
 use Rattle.std.specs.Int.{w128, int_min, int_max, int_shr}
 use Rattle.std.proofs.lemmas.Bool.{cases_Bool, cases_lt, true≢false, false≢true}
 use Rattle.std.proofs.lemmas.Int.{ints, to_z-of_z}
@@ -8,7 +8,7 @@ use borrow.Rule.Slice.PartMut.{put_mid}
 use Rattle.std.proofs.lemmas.List.{places, length-map, get_or_default, get_or-set_same, get_or-set_other}
 use Rattle.sa_numbers.proofs.Sizes.{size-negated}
 use Rattle.sa_dbm.specs.Bounds.{Bound, plus, lesser, greater, half, is_negative, at_most, AtMost}
-use Rattle.sa_dbm.specs.Tables.{Table, entry, table}
+use Rattle.sa_dbm.specs.Tables.{entry, table}
 use Rattle.sa_dbm.proofs.TableLaws.{table_is}
 use Rattle.sa_dbm.specs.Stored.{no_bound, shown, shown_at, IsSummable, stored}
 
@@ -75,12 +75,12 @@ min_of_none a b h k = grind (arith, ints)
 pub shown-min : (a b : ℤ) → shown (int_min a b) ≡ lesser (shown a) (shown b)
 shown-min a b =
     elim (cases_Bool (int_lt a no_bound)) [
-      inl h ↦ elim (cases_Bool (int_lt b no_bound)) [
-        inl k ↦ rw (shown-number a h, shown-number b k) (shown-number (int_min a b) (min_of_numbers a b h k))
+      | inl h ↦ elim (cases_Bool (int_lt b no_bound)) [
+        | inl k ↦ rw (shown-number a h, shown-number b k) (shown-number (int_min a b) (min_of_numbers a b h k))
         | inr k ↦ rw (shown-number a h, shown-none b k) (ap shown (min_first a b h k) ∙ shown-number a h)
       ]
       | inr h ↦ elim (cases_Bool (int_lt b no_bound)) [
-        inl k ↦ rw (shown-none a h) (ap shown (min_second a b h k))
+        | inl k ↦ rw (shown-none a h) (ap shown (min_second a b h k))
         | inr k ↦ rw (shown-none a h, shown-none b k) (shown-none (int_min a b) (min_of_none a b h k))
       ]
     ]
@@ -95,8 +95,8 @@ max_of_none a b (inr h) = grind (arith, ints)
 pub shown-max : (a b : ℤ) → shown (int_max a b) ≡ greater (shown a) (shown b)
 shown-max a b =
     elim (cases_Bool (int_lt a no_bound)) [
-      inl h ↦ elim (cases_Bool (int_lt b no_bound)) [
-        inl k ↦ rw (shown-number a h, shown-number b k) (shown-number (int_max a b) (max_of_numbers a b h k))
+      | inl h ↦ elim (cases_Bool (int_lt b no_bound)) [
+        | inl k ↦ rw (shown-number a h, shown-number b k) (shown-number (int_max a b) (max_of_numbers a b h k))
         | inr k ↦ rw (shown-number a h, shown-none b k) (shown-none (int_max a b) (max_of_none a b (inr k)))
       ]
       | inr h ↦ rw (shown-none a h) (shown-none (int_max a b) (max_of_none a b (inl h)))
@@ -135,7 +135,7 @@ module _ (n i k : ℕ) (xs ys : List ℤ) (row : k ≡ n) (room : i * n + n ≤ 
   pub shown_other_row : (p q : ℕ) → p ≢ i → q < n → shown_at (put_mid (i * n) k xs ys) (p * n + q) ≡ shown_at xs (p * n + q)
   shown_other_row p q differ h =
       elim (cases_lt p i) [
-        inl below ↦ (let r = row_fits_in p i below in shown_before (i * n) k xs ys (omega arith) (omega arith) (p * n + q) (omega arith))
+        | inl below ↦ (let r = row_fits_in p i below in shown_before (i * n) k xs ys (omega arith) (omega arith) (p * n + q) (omega arith))
         | inr above ↦ (let r = row_fits_in i p (omega arith) in shown_after (i * n) k xs ys (omega arith) (omega arith) (p * n + q) (omega arith))
       ]
     where
@@ -210,8 +210,8 @@ negated_shown c f h =
 pub at_most-shown : (a b : ℤ) → FitsSigned w128 a → at_most (shown a) (shown b) ≡ not (int_lt b a)
 at_most-shown a b f =
     elim (cases_Bool (int_lt b no_bound)) [
-      inl k ↦ elim (cases_Bool (int_lt a no_bound)) [
-        inl h ↦ rw (shown-number a h, shown-number b k) (turned a b)
+      | inl k ↦ elim (cases_Bool (int_lt a no_bound)) [
+        | inl h ↦ rw (shown-number a h, shown-number b k) (turned a b)
         | inr h ↦ rw (shown-none a h, shown-number b k) (above a b h k)
       ]
       | inr k ↦ rw (shown-none b k) (below a b f k)

@@ -1,15 +1,15 @@
 -- Rounding and strengthening, entry by entry.
-use Rattle.std.proofs.Common.{◌≡◌, ◌≢◌, ℕ, ◌+◌, ◌*◌, ◌^◌, ◌<◌, ◌≤◌, ◌==◌, Bool, true, false, cond, not, MatchBool, ℤ, unsigned_abs, List, length, Option, Some, None, ◌⊎◌, inl, inr, ap, ap₂, sym, subst, refl, ◌∙◌, arith}
+use Rattle.std.proofs.Common.{◌≡◌, ◌≢◌, ℕ, ◌+◌, ◌*◌, ◌^◌, ◌<◌, ◌≤◌, ◌==◌, Bool, true, false, cond, MatchBool, ℤ, unsigned_abs, List, length, Some, None, inl, inr, ap, ap₂, sym, subst, refl, ◌∙◌, arith}
 use Rattle.std.proofs.lemmas.Bool.{cases_eq, eq-eqb, ne_eqb}
 use Rattle.std.proofs.lemmas.List.{length-map}
 use Rattle.std.proofs.lemmas.Option.{none-some, same_Some}
-use Rattle.sa_dbm.specs.Bounds.{Bound, plus, lesser, AtMost, half, even, IsFlat, is_negative}
+use Rattle.sa_dbm.specs.Bounds.{Bound, plus, lesser, half, even, IsFlat, is_negative}
 use Rattle.sa_dbm.specs.Tables.{Table, nodes, bar, entry, table, IsWithin}
-use Rattle.sa_dbm.specs.Closed.{some_negative, rounded, has_contradiction, strengthened}
+use Rattle.sa_dbm.specs.Closed.{rounded, has_contradiction, strengthened}
 use Rattle.sa_dbm.specs.Stored.{shown, shown_at, stored, IsSummable}
 use Rattle.sa_numbers.proofs.Sizes.{size-half}
-use Rattle.sa_dbm.proofs.BoundLaws.{lesser_above, lesser_below, lesser_left, lesser_right, lesser_greatest, at_most_refl, at_most_antisym, half-even, even_below, flat_doubled, negative_doubled}
-use Rattle.sa_dbm.proofs.TableLaws.{entry-table, table_is, same_tables, length-table, bar_bar, bar_below, bar_differs}
+use Rattle.sa_dbm.proofs.BoundLaws.{lesser_above, lesser_below, at_most_refl, half-even, even_below, flat_doubled, negative_doubled}
+use Rattle.sa_dbm.proofs.TableLaws.{entry-table, same_tables, length-table, bar_bar, bar_below}
 use Rattle.sa_dbm.proofs.StoredLaws.{entry-stored}
 use Rattle.sa_dbm.proofs.Pivots.{some_negative_at, none_negative}
 

@@ -1,6 +1,5 @@
 -- Entries of tables, and that each operation on matrices gives a matrix.
-use Rattle.std.proofs.Common.{◌≡◌, ◌≢◌, ℕ, zero, suc, ◌+◌, ◌-◌, ◌*◌, ◌/◌, ◌%◌, ◌<◌, ◌≤◌, Bool, true, false, cond, ◌==◌, ◌&&◌, ◌||◌, ℤ, pos, neg_ℤ, ◌+ℤ◌, ◌-ℤ◌, List, map, length, get_or, Option, Some, None, option_map, ◌⊎◌, inl, inr, ap, ap₂, sym, subst, refl, ◌∙◌, arith}
-use Rattle.std.specs.List.{range_with_len}
+use Rattle.std.proofs.Common.{◌≡◌, ◌≢◌, ℕ, zero, suc, ◌+◌, ◌-◌, ◌*◌, ◌/◌, ◌%◌, ◌<◌, ◌≤◌, Bool, true, false, cond, ◌==◌, ◌&&◌, ◌||◌, ℤ, pos, neg_ℤ, ◌+ℤ◌, ◌-ℤ◌, List, length, get_or, Some, None, option_map, inl, inr, ap, ap₂, sym, subst, refl, ◌∙◌, arith}
 use Rattle.std.proofs.lemmas.Bool.{cases_eq, eq-eqb, ne_eqb, eqb-true, false_from_ne_true, or_cases, and_parts}
 use Rattle.std.proofs.lemmas.Int.{ints}
 use Rattle.std.proofs.lemmas.List.FromFn.{fill_by_all, get_or-map-range_with_len, length-map-range_with_len}
@@ -76,7 +75,7 @@ bar-odd i = grind arith
 same_tests : (a b c d : ℕ) → (a ≡ b → c ≡ d) → (c ≡ d → a ≡ b) → (a == b) ≡ (c == d)
 same_tests a b c d to from =
     elim (cases_eq a b) [
-      inl e ↦ eq-eqb a b e ∙ sym (eq-eqb c d (to e))
+      | inl e ↦ eq-eqb a b e ∙ sym (eq-eqb c d (to e))
       | inr n ↦ ne_eqb a b n ∙ sym (ne_eqb c d (λ e. n (from e)))
     ]
 
@@ -124,10 +123,10 @@ at_or_twin-diagonal : (i j p : ℕ) → i ≢ j → at_or_twin i j p p ≡ false
 unfolding at_or_twin
 at_or_twin-diagonal i j p differ =
     false_from_ne_true (p == i && p == j || p == bar j && p == bar i) (λ e.
-      elim (or_cases (p == i && p == j) (p == bar j && p == bar i) e) [
-        inl one ↦ at_both i j differ (and_parts (p == i) (p == j) one)
-        | inr twin ↦ at_both (bar j) (bar i) (λ e. differ (sym (bar_bar i) ∙ ap bar (sym e) ∙ bar_bar j)) (and_parts (p == bar j) (p == bar i) twin)
-      ])
+    elim (or_cases (p == i && p == j) (p == bar j && p == bar i) e) [
+      | inl one ↦ at_both i j differ (and_parts (p == i) (p == j) one)
+      | inr twin ↦ at_both (bar j) (bar i) (λ e. differ (sym (bar_bar i) ∙ ap bar (sym e) ∙ bar_bar j)) (and_parts (p == bar j) (p == bar i) twin)
+    ])
   where
     at_both : (k l : ℕ) → k ≢ l → (p == k ≡ true) × (p == l ≡ true) → ⊥
     at_both k l n b = n (sym (eqb-true p k b.0) ∙ eqb-true p l b.1)

@@ -1,16 +1,16 @@
 -- Walks: that `walks` gives least totals, joined and turned walks, and walks without detours.
-use Rattle.std.proofs.Common.{◌≡◌, ◌≢◌, ℕ, zero, suc, ◌+◌, ◌*◌, ◌<◌, ◌≤◌, Bool, true, false, cond, ◌==◌, ℤ, pos, ◌+ℤ◌, ◌≤ℤ◌, List, [], ◌∷◌, length, Option, Some, None, ◌⊎◌, inl, inr, ap, ap₂, sym, subst, refl, ◌∙◌, arith}
+use Rattle.std.proofs.Common.{◌≡◌, ◌≢◌, ℕ, zero, suc, ◌+◌, ◌<◌, ◌≤◌, cond, ◌==◌, ℤ, pos, ◌+ℤ◌, ◌≤ℤ◌, List, [], ◌∷◌, length, Some, None, ◌⊎◌, inl, inr, ap, sym, subst, refl, ◌∙◌, arith}
 use Rattle.std.specs.List.{range_with_len}
 use Rattle.std.proofs.lemmas.Bool.{cases_eq, eq-eqb, ne_eqb, cond_both}
 use Rattle.std.proofs.lemmas.Option.{none-some, same_Some}
 use Rattle.std.proofs.lemmas.Int.{ints}
 use Rattle.std.proofs.lemmas.List.FromFn.{length-range_with_len}
 use Rattle.sa_dbm.specs.Bounds.{Bound, plus, lesser, AtMost, least}
-use Rattle.sa_dbm.specs.Tables.{Table, nodes, bar, entry, table, IsMatrix}
+use Rattle.sa_dbm.specs.Tables.{Table, nodes, bar, entry, IsMatrix}
 use Rattle.sa_dbm.specs.Walks.{Walk, stay, go, IsLeastTotal, at_once, one_more, walks}
 use Rattle.sa_numbers.proofs.Order.{≤ℤ_refl}
 use Rattle.sa_numbers.proofs.Sums.{add-zero_right, add_zero_left, add_group, add_swap}
-use Rattle.sa_dbm.proofs.BoundLaws.{at_most_refl, at_most_trans, at_most_antisym, lesser_left, lesser_right, lesser_is_one, plus_mono, plus_parts, least_below, least_reached}
+use Rattle.sa_dbm.proofs.BoundLaws.{at_most_trans, at_most_antisym, lesser_left, lesser_right, lesser_is_one, plus_mono, plus_parts, least_below, least_reached}
 use Rattle.sa_dbm.proofs.TableLaws.{entry-table, bar_bar, bar_below}
 
 -- a walk, with its number of arcs and its total written in another way
@@ -46,7 +46,7 @@ Reached m most i j t = (k : ℕ) × (k ≤ most) × Walk m k i j t
 by_staying : (m : Table) (most i j : ℕ) (t : ℤ) → at_once i j ≡ Some t → Reached m most i j t
 by_staying m most i j t e =
     elim (cases_eq i j) [
-      inl same ↦ (0, omega arith, subst (λ h. Walk m 0 i h t) same (walk_as refl (same_Some (pos 0) t (rw (eq-eqb i j same) at e)) stay))
+      | inl same ↦ (0, omega arith, subst (λ h. Walk m 0 i h t) same (walk_as refl (same_Some (pos 0) t (rw (eq-eqb i j same) at e)) stay))
       | inr other ↦ absurd (none-some t (rw (ne_eqb i j other) at e))
     ]
 
@@ -57,7 +57,7 @@ pub reached_by_walk : (m : Table) (k i j : ℕ) (t : ℤ) → i < nodes m → j 
 reached_by_walk m zero i j t p q e = by_staying m zero i j t (sym (first_entry m i j p q) ∙ e)
 reached_by_walk m (suc k) i j t p q e =
     elim (lesser_is_one (at_once i j) (least (nodes m) arcs)) [
-      inl at ↦ by_staying m (suc k) i j t (sym at ∙ found)
+      | inl at ↦ by_staying m (suc k) i j t (sym at ∙ found)
       | inr on ↦
           let f = least_reached (nodes m) arcs t (sym on ∙ found) in
           let parts = plus_parts (entry m i f.0) (entry (walks m k) f.0 j) t f.2 in
@@ -84,7 +84,7 @@ below_each_walk m (suc k) {j = j} b p q (go {k = a} {i} {h} {x = x} {y} r s e w)
     let further = plus_mono (entry m i h) (Some x) (entry (walks m k) h j) (Some y) (rw e (≤ℤ_refl x)) (below_each_walk m k (omega arith) s q w) in
     rw (walk_entry m k i j p q)
     (at_most_trans _ (least (nodes m) arcs) (Some (x +ℤ y)) (lesser_right (at_once i j) (least (nodes m) arcs))
-      (at_most_trans _ (arcs h) (Some (x +ℤ y)) (least_below (nodes m) arcs h s) further))
+    (at_most_trans _ (arcs h) (Some (x +ℤ y)) (least_below (nodes m) arcs h s) further))
 
 -- the law of `walks`
 pub least_totals : (m : Table) (k i j : ℕ) → i < nodes m → j < nodes m → IsLeastTotal m k i j (entry (walks m k) i j)
@@ -115,8 +115,8 @@ twin_totals m k i j h p q =
     below : (i j : ℕ) → i < nodes m → j < nodes m → AtMost (entry (walks m k) (bar j) (bar i)) (entry (walks m k) i j)
     below i j p q =
         at_most_by_numbers _ _ (λ t e.
-          let r = reached_by_walk m k i j t p q e in
-          below_each_walk m k r.1 (bar_below j m.vars q) (bar_below i m.vars p) (turned_walk h r.2))
+        let r = reached_by_walk m k i j t p q e in
+        below_each_walk m k r.1 (bar_below j m.vars q) (bar_below i m.vars p) (turned_walk h r.2))
 
 -- ---- walks without detours
 
@@ -207,12 +207,12 @@ cut_later {x = x} b n p q e c =
 cut : {m : Table} (i : ℕ) {s : List ℕ} {k h j : ℕ} {t : ℤ} → Trail m s k h j t → Trail m (without i s) k h j t ⊎ Cut m s i h j k t
 cut i (ends {s} {i = h} b) =
     elim (cases_eq h i) [
-      inl same ↦ inr (cut_at_once same (ends b))
+      | inl same ↦ inr (cut_at_once same (ends b))
       | inr other ↦ inl (ends (in_without i h s b other))
     ]
 cut i (goes {s} {i = l} b p q e w) =
     elim (cases_eq l i) [
-      inl same ↦ inr (cut_at_once same (goes b p q e w))
+      | inl same ↦ inr (cut_at_once same (goes b p q e w))
       | inr other ↦ elim (cut i w) [ inl clear ↦ inl (goes (in_without i l s b other) p q e clear) | inr found ↦ inr (cut_later b other p q e found) ]
     ]
 
@@ -246,7 +246,7 @@ module _ (m : Table) (c : ℕ) (few : suc c ≤ 16) (flat : NoDescent m) (simple
   simple_by s l zero b (goes h p q e w) = absurd (omega arith)
   simple_by s l (suc fuel) b (goes {k = k} {i} {h = g} {j} {x} {y} h p q e w) =
       elim (cut i w) [
-        inl clear ↦ (let one = without_one i s h in ahead (simpler (without i s) k g j y (omega arith) clear))
+        | inl clear ↦ (let one = without_one i s h in ahead (simpler (without i s) k g j y (omega arith) clear))
         | inr found ↦ (let fewer = found.fewer in lowered found.before found.after found.sum (detour s h l p q e found.arrival) (simple_by s l fuel (omega arith) found.rest))
       ]
     where

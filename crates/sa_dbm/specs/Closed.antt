@@ -1,6 +1,6 @@
 -- The closed form of a matrix.
 --
--- Strong closure is Miné's (The octagon abstract domain, 2006, section 3): least totals over walks, and then
+-- Strong closure is Miné's (The octagon abstract domain, 2006): least totals over walks, and then
 -- entry (i, j) at most the half sum of (i, bar i) and (bar j, j). Over whole numbers the entries (i, bar i), which
 -- bound a variable's double, are first rounded down to even, and two opposite ones that then contradict each
 -- other leave no point: R. Bagnara, P. M. Hill and E. Zaffanella, An improved tight closure algorithm for integer

@@ -1,9 +1,9 @@
 -- Tables of bounds: what contracts see of an octagon matrix.
 --
 -- The octagon domain and its matrices are those of A. Miné, The octagon abstract domain, Higher-Order and
--- Symbolic Computation 19 (2006), section 2: variable k has the two nodes 2k, for +x, and 2k + 1, for -x, and
+-- Symbolic Computation 19 (2006): variable k has the two nodes 2k, for +x, and 2k + 1, for -x, and
 -- the entry (i, j) bounds node j minus node i from above.
-use Rattle.std.specs.Prelude.{◌≡◌, ℕ, ◌+◌, ◌-◌, ◌*◌, ◌/◌, ◌%◌, ◌<◌, ◌≤◌, ◌==◌, ◌&&◌, ◌||◌, if◌then◌else◌, Bool, ℤ, pos, ◌-ℤ◌, ◌+ℤ◌, neg_ℤ, unsigned_abs, List, map, length, slice_index_or, Option, Some, None, option_map}
+use Rattle.std.specs.Prelude.{◌≡◌, ℕ, ◌+◌, ◌-◌, ◌*◌, ◌/◌, ◌%◌, ◌<◌, ◌≤◌, ◌==◌, ◌&&◌, ◌||◌, if◌then◌else◌, Bool, ℤ, pos, ◌-ℤ◌, ◌+ℤ◌, neg_ℤ, unsigned_abs, List, map, length, slice_index_or, Some, None, option_map}
 use Rattle.std.specs.List.{range_with_len, list_all}
 use Rattle.sa_dbm.specs.Bounds.{Bound, lesser, greater, at_most, AtMost}
 
@@ -50,11 +50,11 @@ unfoldable pub tightened : Table → ℕ → ℕ → ℤ → Table
 tightened m i j c =
     table m.vars (λ p q. if (p == i && q == j) || (p == bar j && q == bar i) then lesser (entry m p q) (Some c) else entry m p q)
 
--- the entry-wise greatest (Miné 2006, section 4.2: the join)
+-- the entry-wise greatest (the join of Miné 2006)
 unfoldable pub joined : Table → Table → Table
 joined m o = table m.vars (λ i j. greater (entry m i j) (entry o i j))
 
--- each entry is at most the other table's (Miné 2006, section 4.1: the order), as a test and as a fact
+-- each entry is at most the other table's (the order of Miné 2006), as a test and as a fact
 unfoldable pub is_below : Table → Table → Bool
 is_below m o =
     list_all (λ p. at_most (entry m (p / nodes m) (p % nodes m)) (entry o (p / nodes m) (p % nodes m))) (range_with_len 0 (nodes m * nodes m))
@@ -62,7 +62,7 @@ is_below m o =
 abbrev pub IsBelow : Table → Table → Type 0
 IsBelow m o = (i j : ℕ) → i < nodes m → j < nodes m → AtMost (entry m i j) (entry o i j)
 
--- all entries of one variable without bound, but those from its nodes to themselves (Miné 2006, section 4.4)
+-- all entries of one variable without bound, but those from its nodes to themselves (Miné 2006)
 unfoldable pub forgotten : Table → ℕ → Table
 forgotten m var =
     table m.vars (λ i j. if i == j then entry m i j else (if i / 2 == var || j / 2 == var then None else entry m i j))
@@ -71,6 +71,6 @@ forgotten m var =
 unfoldable pub rise : ℕ → ℤ → ℕ → ℤ
 rise var c i = if i / 2 == var then (if i % 2 == 0 then c else neg_ℤ c) else pos 0
 
--- the exact effect of adding c to one variable: each difference moves with its nodes (Miné 2006, section 4.4)
+-- the exact effect of adding c to one variable: each difference moves with its nodes (Miné 2006)
 unfoldable pub shifted : Table → ℕ → ℤ → Table
 shifted m var c = table m.vars (λ i j. option_map (λ z. z +ℤ (rise var c j -ℤ rise var c i)) (entry m i j))

@@ -41,7 +41,7 @@ fn lower(bounds: &mut [i128], nodes: usize, first: &[i128], second: &[i128])
     requires second { (i : ℕ) → i < nodes → IsSummable (shown_at second.now i) }
     ensures { (i j : ℕ) → i < nodes → j < nodes →
         shown_at bounds.new (i * nodes + j)
-            ≡ lesser (shown_at bounds.old (i * nodes + j)) (plus (shown_at first.now i) (shown_at second.now j)) }
+        ≡ lesser (shown_at bounds.old (i * nodes + j)) (plus (shown_at first.now i) (shown_at second.now j)) }
 {
     for i in 0..nodes {
         lower_row(&mut bounds[i * nodes..i * nodes + nodes], first[i], second);
@@ -98,8 +98,8 @@ fn lower_by_pivot(bounds: &mut [i128], nodes: usize, pivot: usize)
     requires summable { (i j : ℕ) → i < nodes → j < nodes → IsSummable (shown_at bounds.old (i * nodes + j)) }
     ensures { (i j : ℕ) → i < nodes → j < nodes →
         shown_at bounds.new (i * nodes + j)
-            ≡ lesser (shown_at bounds.old (i * nodes + j))
-                (plus (shown_at bounds.old (i * nodes + pivot)) (shown_at bounds.old (pivot * nodes + j))) }
+        ≡ lesser (shown_at bounds.old (i * nodes + j))
+        (plus (shown_at bounds.old (i * nodes + pivot)) (shown_at bounds.old (pivot * nodes + j))) }
 {
     let ways = ways_by(bounds, nodes, pivot);
     lower(bounds, nodes, &ways.to, &ways.from);

@@ -12,8 +12,7 @@ mod node;
 mod operations;
 mod stored;
 
-/// Want of memory, the one answer that no clause ties to anything.
-pub use std::alloc::AllocError as OutOfMemory;
-
 pub use closing::Closing;
 pub use matrix::Matrix;
+/// Want of memory, the one answer that no clause ties to anything.
+pub use std::alloc::AllocError as OutOfMemory;

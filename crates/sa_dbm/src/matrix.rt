@@ -4,11 +4,9 @@ ghost use Rattle.sa_dbm.specs.Walks.{walks, IsLeastTotal};
 ghost use Rattle.sa_dbm.specs.Points.{Point, value, moved, with_value, LiesIn};
 ghost use Rattle.sa_dbm.specs.Closed.{ClosesTo, KeepsPoints};
 
-use crate::OutOfMemory;
 use crate::closing::{self, Closing};
-use crate::entries;
-use crate::operations;
 use crate::stored::NO_BOUND;
+use crate::{OutOfMemory, entries, operations};
 use std::alloc::Global;
 use std::marker::Model;
 

@@ -1,4 +1,4 @@
-use Rattle.std.proofs.Common.{◌≡◌, ◌∙◌, ℕ, ◌^◌, ◌≤◌, List, ℤ, Bool, true, false, not, Some, None, sym, subst, ap}
+use Rattle.std.proofs.Common.{◌≡◌, ◌∙◌, ◌^◌, ◌≤◌, Bool, true, false, not, Some, None, sym, subst, ap}
 use Rattle.sa_dbm.specs.Tables.{Table, IsMatrix, IsWithin}
 use Rattle.sa_dbm.specs.Closed.{shortest, has_negative_walk, rounded, has_contradiction, strengthened, closed_form}
 use Rattle.sa_dbm.specs.Stored.{stored}
@@ -53,7 +53,7 @@ pub returns-else-shorten-clause-exact : goal.returns-else-shorten-clause-exact
 returns-else-shorten-clause-exact c =
     let m = stored c.args.vars c.args.bounds.now in
     elim c.else-shorten.branch [
-      else-shorten-via-then-shorten+else-strengthen w ↦
+      | else-shorten-via-then-shorten+else-strengthen w ↦
           empty m (stored c.args.vars c.shorten.new.bounds) m c.shorten.result w.strengthen.result
           c.shorten.ensures.answer (c.shorten.ensures.walks w.if-shorten.true) w.strengthen.ensures.answer w.if-shorten.true w.if-strengthen.false
       | else-shorten-via-else-shorten w ↦ closed-negative m (true_of _ c.shorten.result c.shorten.ensures.answer w.if-shorten.false)

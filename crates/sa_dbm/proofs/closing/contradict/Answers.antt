@@ -1,7 +1,6 @@
-use Rattle.std.proofs.Common.{rules, ◌≡◌, ◌∙◌, ℕ, ◌<◌, length, get_or, pos, arith, ap, sym, true, false, FitsSigned, below_more}
+use Rattle.std.proofs.Common.{rules, ◌∙◌, get_or, pos, arith, ap, sym, FitsSigned, below_more}
 use Rattle.std.specs.Int.{w128}
-use Rattle.sa_dbm.specs.Bounds.{plus, is_negative, IsFlat}
-use Rattle.sa_dbm.specs.Stored.{shown, shown_at}
+use Rattle.sa_dbm.specs.Bounds.{is_negative}
 use Rattle.sa_dbm.proofs.StoredLaws.{read_is, sum_read}
 use Rattle.sa_dbm.proofs.Pivots.{flat_from_test}
 use Rattle.sa_dbm.proofs.closing.contradict.Goals as goal

@@ -1,4 +1,4 @@
-use Rattle.std.proofs.Common.{rules, ◌≡◌, ◌≢◌, ℕ, ◌+◌, ◌-◌, ◌*◌, ◌<◌, ◌≤◌, length, get_or, take, drop, List, ℤ, pos, FitsSigned, to_z, of_z, arith, refl, sym, subst, ap, ap₂, ◌∙◌, inl, inr}
+use Rattle.std.proofs.Common.{rules, ◌≡◌, ◌≢◌, ℕ, ◌+◌, ◌-◌, ◌*◌, ◌≤◌, length, get_or, take, drop, pos, FitsSigned, arith, ap, ap₂, ◌∙◌, inl, inr}
 use Rattle.std.specs.Int.{w128}
 use Rattle.std.proofs.lemmas.Bool.{cases_eq}
 use Rattle.std.proofs.lemmas.List.{length-take, length-drop}
@@ -26,12 +26,12 @@ loop-i-preserved c =
     let first = ap shown (read_is c.args.first.now i (omega arith) f) in
     record {
       lowered = λ p q h b.
-        elim (cases_eq p i) [
-          inl same ↦
-              rw same (shown_row n i k xs c.lower_row.new.row (omega arith) room whole q b ∙ c.lower_row.ensures q (omega arith)
+          elim (cases_eq p i) [
+            | inl same ↦
+                rw same (shown_row n i k xs c.lower_row.new.row (omega arith) room whole q b ∙ c.lower_row.ensures q (omega arith)
                 ∙ ap₂ lesser (shown_part xs (i * n) k q (omega arith) ∙ c.loop-i.invariant.untouched i q (omega arith) b) (ap (λ z. plus z (shown_at c.args.second.now q)) first))
-          | inr other ↦ shown_other_row n i k xs c.lower_row.new.row (omega arith) room whole p q other b ∙ c.loop-i.invariant.lowered p q (omega arith) b
-        ];
+            | inr other ↦ shown_other_row n i k xs c.lower_row.new.row (omega arith) room whole p q other b ∙ c.loop-i.invariant.lowered p q (omega arith) b
+          ];
       untouched = λ p q h b. shown_other_row n i k xs c.lower_row.new.row (omega arith) room whole p q (above_differs p i h) b ∙ c.loop-i.invariant.untouched p q (omega arith) b;
     }
   where

@@ -1,4 +1,4 @@
-use Rattle.std.proofs.Common.{rules, ◌≡◌, ◌∙◌, ℕ, ◌<◌, ◌≤◌, get_or, pos, FitsSigned, arith, refl, subst, ap, ap₂, to_z, of_z}
+use Rattle.std.proofs.Common.{rules, ◌≡◌, ◌∙◌, get_or, pos, FitsSigned, arith, subst, ap, ap₂}
 use Rattle.std.specs.Int.{w128}
 use Rattle.std.proofs.lemmas.Int.{to_z-of_z}
 use Rattle.sa_dbm.specs.Bounds.{plus, lesser}
@@ -18,8 +18,8 @@ loop-i-preserved c =
     let sum = ap shown (to_z-of_z w128 c.sum.result (record { sfits = c.sum.type_inv })) ∙ rw (read_is c.args.others.now i (omega arith) f) at c.sum.ensures in
     record {
       lowered =
-        place_more c.loop-i.row c.lower_at.new.bounds i _ c.loop-i.invariant.lowered c.lower_at.ensures.others
-        (c.lower_at.ensures.here ∙ ap₂ lesser (c.loop-i.invariant.untouched i (omega arith)) sum);
+          place_more c.loop-i.row c.lower_at.new.bounds i _ c.loop-i.invariant.lowered c.lower_at.ensures.others
+          (c.lower_at.ensures.here ∙ ap₂ lesser (c.loop-i.invariant.untouched i (omega arith)) sum);
       untouched = λ k h. c.lower_at.ensures.others k (place_past i k h) ∙ c.loop-i.invariant.untouched k (omega arith);
     }
 

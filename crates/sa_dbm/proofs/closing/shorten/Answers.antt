@@ -1,9 +1,8 @@
-use Rattle.std.proofs.Common.{rules, ◌≡◌, ◌∙◌, ℕ, ◌+◌, ◌*◌, ◌<◌, Bool, true, false, not, length, get_or, pos, arith, sym, subst, ap, FitsSigned, below_more}
+use Rattle.std.proofs.Common.{rules, ◌≡◌, ◌∙◌, ◌+◌, ◌*◌, not, get_or, pos, arith, sym, subst, ap, FitsSigned, below_more}
 use Rattle.std.specs.Int.{w128}
 use Rattle.std.proofs.lemmas.Bool.{MatchBool-at_true}
-use Rattle.sa_dbm.specs.Bounds.{is_negative, IsFlat}
-use Rattle.sa_dbm.specs.Stored.{shown, shown_at, stored}
-use Rattle.sa_dbm.proofs.Pivots.{through, negative_walk, FlatPivots, flat_from_test}
+use Rattle.sa_dbm.specs.Stored.{stored}
+use Rattle.sa_dbm.proofs.Pivots.{negative_walk, FlatPivots, flat_from_test}
 use Rattle.sa_dbm.proofs.Shortening.{Totals, totals-first, own_total, totals_more, totals_summable, end_answer, end_walks}
 use Rattle.sa_dbm.proofs.closing.shorten.Goals as goal
 

@@ -1,4 +1,4 @@
-use Rattle.std.proofs.Common.{◌≡◌, ◌∙◌, ℕ, true, false, not, ap, sym, subst, List, ℤ}
+use Rattle.std.proofs.Common.{◌∙◌, not, ap, sym}
 use Rattle.sa_dbm.specs.Stored.{shown_at}
 use Rattle.sa_dbm.proofs.TableLaws.{bar_below}
 use Rattle.sa_dbm.proofs.Strengthening.{first_summable, second_summable, answer_of, lowered_is}

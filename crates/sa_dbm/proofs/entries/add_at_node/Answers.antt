@@ -1,7 +1,7 @@
-use Rattle.std.proofs.Common.{◌≡◌, ◌≢◌, ◌∙◌, ℕ, ◌+◌, ◌*◌, ◌<◌, sym, subst, arith}
-use Rattle.sa_dbm.specs.Stored.{shown, shown_at, IsSummable}
+use Rattle.std.proofs.Common.{◌∙◌, ◌+◌, ◌*◌, sym, subst, arith}
+use Rattle.sa_dbm.specs.Stored.{IsSummable}
 use Rattle.sa_dbm.proofs.StoredLaws.{places_differ}
-use Rattle.sa_dbm.proofs.NodeLaws.{Added, added_skip, added_more}
+use Rattle.sa_dbm.proofs.NodeLaws.{added_skip, added_more}
 use Rattle.sa_dbm.proofs.entries.add_at_node.Goals as goal
 use Rattle.sa_dbm.proofs.entries.add_at_node.Goals.{then-i-node, else-i-node}
 
@@ -20,8 +20,8 @@ loop-i-preserved c =
     let v = c.args.node in
     let i = c.loop-i.i in
     elim c.if-i-node.branch [
-      then-i-node w ↦
+      | then-i-node w ↦
           rw w.bounds-is (added_more n v i c.args.bounds.now c.loop-i.bounds _ _ c.requires.node c.loop-i-test.true c.loop-i.invariant w.add_at.new.bounds w.add_at-then-i-node.new.bounds w.if-i-node.true
-            w.add_at.ensures.here w.add_at.ensures.others w.add_at-then-i-node.ensures.here w.add_at-then-i-node.ensures.others)
+          w.add_at.ensures.here w.add_at.ensures.others w.add_at-then-i-node.ensures.here w.add_at-then-i-node.ensures.others)
       | else-i-node w ↦ rw w.bounds-is (added_skip n v i c.args.bounds.now c.loop-i.bounds _ _ c.requires.node c.loop-i-test.true c.loop-i.invariant w.if-i-node.false)
     ]

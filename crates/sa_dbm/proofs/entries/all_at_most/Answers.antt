@@ -1,8 +1,8 @@
-use Rattle.std.proofs.Common.{rules, ◌≡◌, ◌∙◌, ℕ, ◌+◌, ◌<◌, length, ℤ, arith, FitsSigned, below_more}
+use Rattle.std.proofs.Common.{rules, length, FitsSigned, below_more}
 use Rattle.std.specs.Int.{w128}
 use Rattle.std.proofs.lemmas.List.{length_push}
 use Rattle.std.proofs.lemmas.Slice.Zip.{zip_turn}
-use Rattle.sa_dbm.specs.Bounds.{at_most, AtMost}
+use Rattle.sa_dbm.specs.Bounds.{AtMost}
 use Rattle.sa_dbm.specs.Stored.{shown_at, no_bound}
 use Rattle.sa_dbm.proofs.StoredLaws.{compared, at_most_holds}
 use Rattle.sa_dbm.proofs.entries.all_at_most.Goals as goal

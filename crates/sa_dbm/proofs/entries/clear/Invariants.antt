@@ -1,5 +1,4 @@
-use Rattle.std.proofs.Common.{◌≡◌, ℕ, ◌+◌, ◌*◌, ◌<◌, ◌≤◌, None, Some, pos}
-use Rattle.sa_dbm.specs.Bounds.{Bound}
+use Rattle.std.proofs.Common.{◌≡◌, ℕ, ◌+◌, ◌*◌, ◌<◌, ◌≤◌, None}
 use Rattle.sa_dbm.specs.Stored.{shown_at}
 use Rattle.sa_dbm.specs.Walks.{at_once}
 use Rattle.sa_dbm.proofs.entries.clear.Given as goal

@@ -1,4 +1,4 @@
-use Rattle.std.proofs.Common.{rules, ◌≡◌, ◌≢◌, ◌∙◌, ℕ, ◌+◌, ◌<◌, ◌≤◌, ap, ap₂, get_or, pos, FitsSigned, arith}
+use Rattle.std.proofs.Common.{rules, ◌≢◌, ◌∙◌, ℕ, ◌+◌, ◌≤◌, ap, ap₂, get_or, pos, FitsSigned, arith}
 use Rattle.std.specs.Int.{w128}
 use Rattle.std.proofs.lemmas.Int.{to_z-of_z}
 use Rattle.sa_dbm.specs.Bounds.{greater}
@@ -16,8 +16,8 @@ loop-i-preserved c =
     let old = ap shown (read_is xs i (omega arith) f) ∙ c.loop-i.invariant.untouched i (omega arith) in
     record {
       raised =
-        filled_more xs i _ (λ k. greater (shown_at c.args.bounds.now k) (shown_at ys k)) (omega arith) c.loop-i.invariant.raised
-        (ap shown (to_z-of_z w128 c.max.result (record { sfits = c.max.type_inv }) ∙ c.max.ensures.value) ∙ shown-max _ _
+          filled_more xs i _ (λ k. greater (shown_at c.args.bounds.now k) (shown_at ys k)) (omega arith) c.loop-i.invariant.raised
+          (ap shown (to_z-of_z w128 c.max.result (record { sfits = c.max.type_inv }) ∙ c.max.ensures.value) ∙ shown-max _ _
           ∙ ap₂ greater old (ap shown (read_is ys i (omega arith) g)));
       untouched = λ k h. shown_at-set_other xs i k _ (above_differs k i h) ∙ c.loop-i.invariant.untouched k (omega arith);
     }

@@ -1,8 +1,8 @@
-use Rattle.std.proofs.Common.{◌≡◌, ◌∙◌, ℕ, ◌*◌, ◌+◌, ◌<◌, None, ap, arith}
+use Rattle.std.proofs.Common.{◌∙◌, ◌*◌, ◌+◌, None, ap, arith}
 use Rattle.sa_dbm.specs.Bounds.{plus}
-use Rattle.sa_dbm.specs.Stored.{shown, shown_at, IsSummable, no_bound}
+use Rattle.sa_dbm.specs.Stored.{shown, no_bound}
 use Rattle.sa_dbm.proofs.StoredLaws.{shown-no_bound}
-use Rattle.sa_dbm.proofs.NodeLaws.{Added, Small, added_all, added_summable, none_small, none_summable, small_summable, stored_small}
+use Rattle.sa_dbm.proofs.NodeLaws.{added_all, added_summable, none_small, none_summable, small_summable, stored_small}
 use Rattle.sa_dbm.proofs.OperationLaws.{forgotten_stored}
 use Rattle.sa_dbm.proofs.operations.forget.Goals as goal
 

@@ -1,4 +1,4 @@
-use Rattle.std.proofs.Common.{◌≡◌, ◌∙◌}
+use Rattle.std.proofs.Common.{◌∙◌}
 use Rattle.sa_dbm.proofs.MatrixLaws.{top_stored}
 use Rattle.sa_dbm.proofs.operations.make_top.Goals as goal
 

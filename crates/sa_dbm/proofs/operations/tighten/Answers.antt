@@ -1,9 +1,6 @@
-use Rattle.std.proofs.Common.{rules, ◌≡◌, ◌∙◌, ℕ, ◌+◌, ◌*◌, ◌≤◌, ◌<◌, length, arith, ap, Fits, w64, to_z, of_z}
-use Rattle.std.specs.Int.{w128}
+use Rattle.std.proofs.Common.{rules, ◌∙◌, ◌*◌, ◌<◌, arith, ap}
 use Rattle.std.proofs.lemmas.Nat.{mul-add-lt, mul-le}
 use Rattle.sa_dbm.specs.Bounds.{lesser}
-use Rattle.sa_dbm.specs.Tables.{bar}
-use Rattle.sa_dbm.specs.Stored.{shown}
 use Rattle.sa_dbm.proofs.TableLaws.{bar_below}
 use Rattle.sa_dbm.proofs.StoredLaws.{argument_shown}
 use Rattle.sa_dbm.proofs.OperationLaws.{tightened_stored}

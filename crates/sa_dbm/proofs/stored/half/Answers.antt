@@ -1,8 +1,7 @@
-use Rattle.std.proofs.Common.{◌≡◌, ◌∙◌, sym, ap, true, int_lt, arith, to_z, of_z, FitsSigned}
+use Rattle.std.proofs.Common.{◌∙◌, sym, ap}
 use Rattle.std.specs.Int.{w128, int_shr}
 use Rattle.std.proofs.lemmas.Int.{to_z-of_z}
 use Rattle.sa_dbm.specs.Bounds.{half}
-use Rattle.sa_dbm.specs.Stored.{shown, no_bound}
 use Rattle.sa_dbm.proofs.StoredLaws.{shown-none, shown-no_bound, shown_half, half_fits}
 use Rattle.sa_dbm.proofs.stored.half.Goals as goal
 

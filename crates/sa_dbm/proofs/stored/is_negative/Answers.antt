@@ -1,4 +1,4 @@
-use Rattle.std.proofs.Common.{◌≡◌, ◌∙◌, sym, ap, int_lt, pos, to_z, of_z}
+use Rattle.std.proofs.Common.{◌∙◌, sym, ap, int_lt, pos}
 use Rattle.std.specs.Int.{w128}
 use Rattle.std.proofs.lemmas.Int.{to_z-of_z}
 use Rattle.sa_dbm.proofs.StoredLaws.{negative-shown}

@@ -1,8 +1,7 @@
-use Rattle.std.proofs.Common.{◌≡◌, ◌+ℤ◌, ◌∙◌, sym, ap, true, false, int_lt, arith, to_z, of_z, FitsSigned}
+use Rattle.std.proofs.Common.{◌+ℤ◌, ◌∙◌, sym}
 use Rattle.std.specs.Int.{w128}
 use Rattle.std.proofs.lemmas.Int.{to_z-of_z}
-use Rattle.sa_dbm.specs.Bounds.{plus}
-use Rattle.sa_dbm.specs.Stored.{shown, no_bound}
+use Rattle.sa_dbm.specs.Stored.{shown}
 use Rattle.sa_dbm.proofs.BoundLaws.{plus_none}
 use Rattle.sa_dbm.proofs.StoredLaws.{shown-none, shown-no_bound, shown_sum, sum_fits}
 use Rattle.sa_dbm.proofs.stored.sum.Goals as goal
@@ -26,7 +25,7 @@ returns-then-b-lt-NO_BOUND c =
 pub returns-else-a-lt-NO_BOUND : goal.returns-else-a-lt-NO_BOUND
 returns-else-a-lt-NO_BOUND c =
     elim c.else-a-lt-NO_BOUND.branch [
-      else-a-lt-NO_BOUND-via-then-a-lt-NO_BOUND+else-b-lt-NO_BOUND w ↦
+      | else-a-lt-NO_BOUND-via-then-a-lt-NO_BOUND+else-b-lt-NO_BOUND w ↦
           rw (shown-none c.args.b (rw (to_z-of_z w128 c.args.b c.ranges.b) at w.if-b-lt-NO_BOUND.false)) (shown-no_bound ∙ sym (plus_none (shown c.args.a)))
       | else-a-lt-NO_BOUND-via-else-a-lt-NO_BOUND w ↦
           rw (shown-none c.args.a (rw (to_z-of_z w128 c.args.a c.ranges.a) at w.if-a-lt-NO_BOUND.false)) shown-no_bound

@@ -1,8 +1,6 @@
-use Rattle.std.proofs.Common.{rules, ◌≡◌, ◌∙◌, ℕ, ℤ, ◌+◌, ◌*◌, ◌<◌, length, sym, ap, Some, None, arith, FitsSigned, to_z, of_z}
+use Rattle.std.proofs.Common.{rules, ◌∙◌, sym, ap, Some, arith, FitsSigned}
 use Rattle.std.specs.Int.{w128}
 use Rattle.std.proofs.lemmas.Int.{to_z-of_z}
-use Rattle.sa_dbm.specs.Tables.{nodes, entry}
-use Rattle.sa_dbm.specs.Stored.{shown}
 use Rattle.sa_dbm.proofs.StoredLaws.{shown-number, shown-none}
 use Rattle.sa_dbm.proofs.MatrixLaws.{place_inside, entry_read}
 use Rattle.sa_dbm.proofs.matrix.Matrix.bound.Goals as goal

@@ -1,6 +1,5 @@
-use Rattle.std.proofs.Common.{◌≡◌, ◌∙◌, sym, ap, subst₂}
-use Rattle.sa_dbm.specs.Tables.{Table}
-use Rattle.sa_dbm.specs.Closed.{ClosesTo, KeepsPoints}
+use Rattle.std.proofs.Common.{◌∙◌, sym, ap, subst₂}
+use Rattle.sa_dbm.specs.Closed.{ClosesTo}
 use Rattle.sa_dbm.specs.Stored.{stored}
 use Rattle.sa_dbm.proofs.WalkLaws.{least_totals}
 use Rattle.sa_dbm.proofs.Soundness.{points_kept}

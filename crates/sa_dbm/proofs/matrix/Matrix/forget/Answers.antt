@@ -1,5 +1,5 @@
-use Rattle.std.proofs.Common.{◌≡◌, ◌∙◌, ℤ, sym, subst, ap}
-use Rattle.sa_dbm.specs.Tables.{Table, IsMatrix, forgotten}
+use Rattle.std.proofs.Common.{◌∙◌, sym, subst, ap}
+use Rattle.sa_dbm.specs.Tables.{IsMatrix, forgotten}
 use Rattle.sa_dbm.specs.Points.{LiesIn, with_value}
 use Rattle.sa_dbm.specs.Stored.{stored}
 use Rattle.sa_dbm.proofs.TableLaws.{matrix-forgotten}

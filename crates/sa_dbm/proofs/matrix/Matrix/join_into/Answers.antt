@@ -1,5 +1,5 @@
-use Rattle.std.proofs.Common.{◌≡◌, ◌∙◌, ℕ, ◌*◌, length, sym, subst, ap, ap₂}
-use Rattle.sa_dbm.specs.Tables.{Table, IsMatrix, joined}
+use Rattle.std.proofs.Common.{◌≡◌, ◌∙◌, length, sym, subst, ap, ap₂}
+use Rattle.sa_dbm.specs.Tables.{IsMatrix, joined}
 use Rattle.sa_dbm.specs.Points.{LiesIn}
 use Rattle.sa_dbm.specs.Stored.{stored}
 use Rattle.sa_dbm.proofs.TableLaws.{matrix-joined}

@@ -1,5 +1,5 @@
-use Rattle.std.proofs.Common.{◌≡◌, ◌∙◌, ◌↔◌, ℕ, ◌*◌, length, true, subst₂, ap, ap₂}
-use Rattle.sa_dbm.specs.Tables.{Table, is_below, IsBelow}
+use Rattle.std.proofs.Common.{◌≡◌, ◌∙◌, ◌↔◌, length, true, subst₂, ap, ap₂}
+use Rattle.sa_dbm.specs.Tables.{is_below, IsBelow}
 use Rattle.sa_dbm.specs.Stored.{stored}
 use Rattle.sa_dbm.proofs.OperationLaws.{order_test, order_fact}
 use Rattle.sa_dbm.proofs.MatrixLaws.{same_vars, same_length}

@@ -1,7 +1,7 @@
-use Rattle.std.proofs.Common.{◌≡◌, ◌∙◌, ◌↔◌, sym, subst, ap}
+use Rattle.std.proofs.Common.{◌∙◌, ◌↔◌, sym, subst, ap}
 use Rattle.std.specs.Int.{w128}
 use Rattle.std.proofs.lemmas.Int.{to_z-of_z}
-use Rattle.sa_dbm.specs.Tables.{Table, IsMatrix, shifted}
+use Rattle.sa_dbm.specs.Tables.{IsMatrix, shifted}
 use Rattle.sa_dbm.specs.Points.{LiesIn, moved}
 use Rattle.sa_dbm.specs.Stored.{stored}
 use Rattle.sa_dbm.proofs.TableLaws.{matrix-shifted}

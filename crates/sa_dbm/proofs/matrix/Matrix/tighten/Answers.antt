@@ -1,7 +1,7 @@
-use Rattle.std.proofs.Common.{◌≡◌, ◌∙◌, ℤ, ◌-ℤ◌, ◌≤ℤ◌, ◌↔◌, sym, subst, ap}
+use Rattle.std.proofs.Common.{◌∙◌, ◌-ℤ◌, ◌≤ℤ◌, ◌↔◌, sym, subst, ap}
 use Rattle.std.specs.Int.{w128}
 use Rattle.std.proofs.lemmas.Int.{to_z-of_z}
-use Rattle.sa_dbm.specs.Tables.{Table, IsMatrix, tightened}
+use Rattle.sa_dbm.specs.Tables.{IsMatrix, tightened}
 use Rattle.sa_dbm.specs.Points.{LiesIn, value}
 use Rattle.sa_dbm.specs.Stored.{stored}
 use Rattle.sa_dbm.proofs.TableLaws.{matrix-tightened}

@@ -1,4 +1,4 @@
-use Rattle.std.proofs.Common.{◌≡◌, ◌∙◌, ℕ, ◌*◌, length, sym, subst, ap}
+use Rattle.std.proofs.Common.{◌≡◌, ◌∙◌, ◌*◌, length, sym, subst, ap}
 use Rattle.sa_dbm.specs.Stored.{stored, IsStored}
 use Rattle.sa_dbm.proofs.StoredLaws.{vars-stored}
 use Rattle.sa_dbm.proofs.MatrixLaws.{items_written, top_is_stored}

@@ -1,4 +1,4 @@
-use Rattle.std.proofs.Common.{rules, ◌≡◌, ◌^◌, ◌≤◌, ℕ, ℤ, unsigned_abs, sym, subst, to_z, of_z}
+use Rattle.std.proofs.Common.{rules, ◌≡◌, ◌^◌, ◌≤◌, ℕ, ℤ, unsigned_abs, sym, subst}
 use Rattle.sa_dbm.specs.Tables.{Table, IsWithin, top_table, tightened}
 use Rattle.sa_dbm.proofs.Sizes.{within-top, within-tightened}
 use Rattle.sa_dbm.proofs.matrix.tests.closes.Goals as goal

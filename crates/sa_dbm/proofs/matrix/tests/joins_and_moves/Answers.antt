@@ -1,5 +1,5 @@
-use Rattle.std.proofs.Common.{rules, ◌≡◌, ◌^◌, ◌≤◌, ◌∙◌, ℕ, ℤ, unsigned_abs, sym, subst, ap, to_z, of_z}
-use Rattle.sa_dbm.specs.Tables.{Table, IsWithin, top_table, tightened, joined}
+use Rattle.std.proofs.Common.{rules, ◌≡◌, ◌^◌, ◌≤◌, ◌∙◌, ℤ, unsigned_abs, sym, subst}
+use Rattle.sa_dbm.specs.Tables.{Table, IsWithin, top_table, tightened}
 use Rattle.sa_dbm.proofs.Sizes.{within-top, within-tightened, within-joined}
 use Rattle.sa_dbm.proofs.matrix.tests.joins_and_moves.Goals as goal
 
