@@ -25,6 +25,71 @@ fn interval((lo, hi): Ends) -> Option<Interval> {
     }
 }
 
+fn sum(a: Ends, b: Ends) -> Option<Ends> {
+    Some(ends(interval(a)?.add(interval(b)?)))
+}
+
+fn difference(a: Ends, b: Ends) -> Option<Ends> {
+    Some(ends(interval(a)?.sub(interval(b)?)))
+}
+
+#[test]
+fn sums_and_differences(rt: HostRuntime) {
+    for (a, b, sum_is, difference_is) in [
+        ((0, 0), (0, 0), (0, 0), (0, 0)),
+        ((-1, 1), (-1, 0), (-2, 1), (-1, 2)),
+        (
+            (INT_LOW, INT_HIGH),
+            (1, 1),
+            (INT_LOW + 1, INT_HIGH + 1),
+            (INT_LOW - 1, INT_HIGH - 1),
+        ),
+        (
+            (0, UNSIGNED_HIGH),
+            (INT_LOW, INT_LOW),
+            (INT_LOW, UNSIGNED_HIGH + INT_LOW),
+            (-INT_LOW, UNSIGNED_HIGH - INT_LOW),
+        ),
+        // past the limit a bound is cut there
+        (
+            (-LIMIT, LIMIT),
+            (1, 2),
+            (1 - LIMIT, LIMIT),
+            (-LIMIT, LIMIT - 1),
+        ),
+        ((LIMIT, LIMIT), (LIMIT, LIMIT), (LIMIT, LIMIT), (0, 0)),
+    ] {
+        assert_eq!(rt; sum(a, b), Some(sum_is));
+        assert_eq!(rt; difference(a, b), Some(difference_is));
+    }
+}
+
+fn joined(a: Ends, b: Ends) -> Option<Ends> {
+    Some(ends(interval(a)?.join(interval(b)?)))
+}
+
+fn common(a: Ends, b: Ends) -> Option<Ends> {
+    interval(a)?.meet(interval(b)?).map(|m| ends(m))
+}
+
+#[test]
+fn joins_and_meets(rt: HostRuntime) {
+    for (a, b, joined_is, common_is) in [
+        ((0, 1), (1, 3), (0, 3), Some((1, 1))),
+        ((0, 0), (1, 1), (0, 1), None),
+        (
+            (INT_LOW, INT_HIGH),
+            (-1, 0),
+            (INT_LOW, INT_HIGH),
+            Some((-1, 0)),
+        ),
+        ((-LIMIT, 0), (0, LIMIT), (-LIMIT, LIMIT), Some((0, 0))),
+    ] {
+        assert_eq!(rt; joined(a, b), Some(joined_is));
+        assert_eq!(rt; common(a, b), common_is);
+    }
+}
+
 fn product(a: Ends, b: Ends) -> Option<Ends> {
     Some(ends(interval(a)?.mul(interval(b)?)))
 }
