@@ -1,0 +1,6 @@
+pub mod Copying
+pub mod Forests
+pub mod Lists
+pub mod Sample
+pub mod Unfolding
+pub mod Ways

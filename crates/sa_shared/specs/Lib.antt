@@ -1,0 +1,5 @@
+pub mod Copies
+pub mod Forest
+pub mod Slots
+pub mod Tree
+pub mod Way

@@ -1,0 +1,65 @@
+//! Frozen parts.
+
+ghost use Rattle.std.specs.Prelude.{◌≡◌, length, IfOk};
+ghost use Rattle.sa_shared.specs.Forest.{list_of, Belongs};
+
+use crate::OutOfMemory;
+use crate::build::build;
+use crate::nodes::{Node, Root};
+use crate::slot::Slot;
+use std::alloc::AllocError;
+use std::marker::Model;
+
+/// Lists of slots that stay as they are. Contracts see the number of slots of each list, the first root, and the
+/// nodes in their order.
+#[derive(Drop)]
+pub struct Frozen<T> {
+    pub(crate) slots: u32,
+    pub(crate) first: Root,
+    pub(crate) nodes: Vec<Node<T>>,
+}
+
+impl<T> Model for Frozen<T> {
+    ghost use Rattle.sa_shared.specs.Forest.{Forest};
+    ghost use Rattle.sa_shared.specs.Tree.{IsTree};
+
+    ghost Value = { Forest T };
+
+    ghost view = { λ f. record { slots = f.slots; first = f.first; nodes = f.nodes.items } };
+
+    ghost invariant = { λ f. IsTree f.nodes.items f.slots f.first.node };
+}
+
+impl<T: Slot> Frozen<T> {
+    /// A frozen part with one list, and that list's root.
+    pub fn of(list: Vec<T>) -> Result<(Frozen<T>, Root), OutOfMemory>
+        ensures list { IfOk result (λ made. list_of made.0 made.1 ≡ list.items) }
+        ensures slots { IfOk result (λ made. made.0.slots ≡ length list.items) }
+        ensures root { IfOk result (λ made. Belongs T.like made.0 made.1) }
+        ensures first { IfOk result (λ made. made.0.first ≡ made.1) }
+    {
+        let Ok(slots) = u32::try_from(list.len()) else {
+            return Err(AllocError);
+        };
+        let mut list = list;
+        let mut nodes = Vec::with_capacity(*list.allocator(), list.len().saturating_mul(2))?;
+        let node = build(&mut list, slots, &mut nodes)?;
+        let first = Root { node };
+        Ok((
+            Frozen {
+                slots,
+                first,
+                nodes,
+            },
+            first,
+        ))
+    }
+
+    /// The root of the list that the part was made of, or of the first list that was kept when it was made.
+    pub fn first(&self) -> Root
+        ensures root { result ≡ self.now.first }
+        ensures belongs { Belongs T.like self.now result }
+    {
+        self.first
+    }
+}

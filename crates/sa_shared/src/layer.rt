@@ -1,0 +1,124 @@
+//! Layers of new lists over a frozen part.
+
+ghost use Rattle.std.specs.Prelude.{◌≡◌, ◌+◌, ◌*◌, ◌<◌, ◌≤◌, ◌↔◌, length, map, slice_get, slice_index_or, slice_set, Some, IfOk, OnOk, IsTrue};
+ghost use Rattle.std.specs.List.{All};
+ghost use Rattle.sa_shared.specs.Slots.{slotwise, EachSlot};
+ghost use Rattle.sa_shared.specs.Tree.{differences, visits, way_length};
+ghost use Rattle.sa_shared.specs.Forest.{list_of, tree_of, reached, Belongs, Grows};
+
+use crate::OutOfMemory;
+use crate::frozen::Frozen;
+use crate::nodes::{Nodes, Root};
+use crate::slot::Slot;
+use sa_steps::Steps;
+use std::marker::Model;
+use std::sync::ledger::Ledger;
+
+/// A frozen part, and lists that were made from its lists since. Contracts see both as one, as they see a frozen
+/// part.
+#[derive(Drop)]
+pub struct Layer<'a, T> {
+    slots: u32,
+    first: Root,
+    nodes: Nodes<'a, T>,
+}
+
+impl<'a, T> Model for Layer<'a, T> {
+    ghost use Rattle.sa_shared.specs.Forest.{Forest};
+    ghost use Rattle.sa_shared.specs.Tree.{IsTree};
+
+    ghost Value = { Forest T };
+
+    ghost view = { λ l. record { slots = l.slots; first = l.first; nodes = l.nodes } };
+
+    ghost invariant = { λ l. IsTree l.nodes l.slots l.first.node };
+}
+
+impl<'a, T: Slot> Layer<'a, T> {
+    /// A layer with the lists of the base alone.
+    pub fn over(base: &'a Frozen<T>) -> Layer<'a, T>
+        ensures { result ≡ base.now }
+    {
+        Layer {
+            slots: base.slots,
+            first: base.first,
+            nodes: Nodes::over(*base.nodes.allocator(), base.nodes.as_slice()),
+        }
+    }
+
+    /// The value of a slot.
+    pub fn get(&self, r: Root, slot: u32) -> &T
+        requires root { Belongs T.like self.now r }
+        requires slot { slot < self.now.slots }
+        ensures { slice_get (list_of self.now r) slot ≡ Some result.now }
+    {
+        self.nodes.get(self.slots, r.node, slot)
+    }
+
+    /// The root of the same list with another value in a slot.
+    pub fn set(&mut self, r: Root, slot: u32, v: T) -> Result<Root, OutOfMemory>
+        requires root { Belongs T.like self.old r }
+        requires slot { slot < self.old.slots }
+        requires like { T.like v (slice_index_or (list_of self.old r) slot v) }
+        ensures root { IfOk result (λ made. Belongs T.like self.new made) }
+        ensures list { IfOk result (λ made. list_of self.new made ≡ slice_set (list_of self.old r) slot v) }
+        ensures older { Grows T.like self.old self.new }
+        ensures nodes { length self.new.nodes ≤ length self.old.nodes + way_length (tree_of self.old r) slot }
+    {
+        let node = self.nodes.set(self.slots, r.node, slot, v)?;
+        Ok(Root { node })
+    }
+
+    /// The root of the slot-wise join of two lists. Each pair of nodes that it visits is a step, and halves that
+    /// both lists share are not entered.
+    pub fn join<L: Ledger>(
+        &mut self,
+        a: Root,
+        b: Root,
+        steps: &mut Steps<L>,
+    ) -> Result<Root, OutOfMemory>
+        requires first { Belongs T.like self.old a }
+        requires second { Belongs T.like self.old b }
+        ensures root { IfOk result (λ made. Belongs T.like self.new made) }
+        ensures list { IfOk result (λ made. list_of self.new made ≡ slotwise T.join_of (list_of self.old a) (list_of self.old b)) }
+        ensures older { Grows T.like self.old self.new }
+        ensures nodes { length self.new.nodes ≤ length self.old.nodes + differences (tree_of self.old a) (tree_of self.old b) }
+        ensures counted { OnOk result (steps.new ≡ steps.old + visits (tree_of self.old a) (tree_of self.old b)) }
+        ensures visits { steps.new ≤ steps.old + (2 * differences (tree_of self.old a) (tree_of self.old b) + 1) }
+    {
+        let node = self.nodes.join(self.slots, a.node, b.node, steps)?;
+        Ok(Root { node })
+    }
+
+    /// Whether each slot's value is the same in the second list, or greater.
+    pub fn le(&self, a: Root, b: Root) -> bool
+        requires first { Belongs T.like self.now a }
+        requires second { Belongs T.like self.now b }
+        ensures { IsTrue result ↔ EachSlot T.below (list_of self.now a) (list_of self.now b) }
+    {
+        self.nodes.le(self.slots, a.node, b.node)
+    }
+
+    /// A new frozen part of these lists alone, and their roots in it, in the same order. The first one's root is
+    /// the part's first.
+    pub fn compact(&self, roots: &[Root]) -> Result<(Frozen<T>, Vec<Root>), OutOfMemory>
+        requires some { 0 < length roots.now }
+        requires roots { All (Belongs T.like self.now) roots.now }
+        ensures lists { IfOk result (λ made. map (list_of made.0) made.1.items ≡ map (list_of self.now) roots.now) }
+        ensures slots { IfOk result (λ made. made.0.slots ≡ self.now.slots) }
+        ensures roots { IfOk result (λ made. All (Belongs T.like made.0) made.1.items) }
+        ensures first { IfOk result (λ made. slice_get made.1.items 0 ≡ Some made.0.first) }
+        ensures nodes { IfOk result (λ made. length made.0.nodes ≤ reached self.now.nodes roots.now (length self.now.nodes)) }
+    {
+        let (nodes, made) = self.nodes.copy_all(self.slots, roots)?;
+        let first = made[0];
+        Ok((
+            Frozen {
+                slots: self.slots,
+                first,
+                nodes,
+            },
+            made,
+        ))
+    }
+}

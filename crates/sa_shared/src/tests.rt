@@ -1,0 +1,119 @@
+//! A tree of eight slots, with one slot set.
+
+ghost use Rattle.std.specs.Prelude.{◌≡◌, ◌<◌, IfOk, length};
+ghost use Rattle.sa_shared.specs.Forest.{Belongs, Grows};
+
+use crate::{Frozen, Layer, Root, Slot};
+use sa_steps::Steps;
+use std::alloc::{AllocError, Global};
+use std::marker::Brand;
+use std::sync::ledger::{Blank, Ledger};
+use std::test::Fail;
+
+/// The numbers from 10 to 17.
+fn eight(alloc: Global) -> Result<(Frozen<u32>, Root), AllocError>
+    ensures slots { IfOk result (λ made. made.0.slots ≡ 8) }
+    ensures root { IfOk result (λ made. Belongs ⟦<u32 as Slot>⟧.like made.0 made.1) }
+{
+    let list = vec![in alloc; 10, 11, 12, 13, 14, 15, 16, 17]?;
+    Frozen::of(list)
+}
+
+/// The values of a root's eight slots.
+fn list(alloc: Global, layer: &Layer<u32>, root: Root) -> Result<Vec<u32>, AllocError>
+    requires slots { layer.now.slots ≡ 8 }
+    requires root { Belongs ⟦<u32 as Slot>⟧.like layer.now root }
+{
+    let mut all = Vec::new(alloc);
+    for slot in 0..8u32 {
+        all.push(*layer.get(root, slot))?;
+    }
+    Ok(all)
+}
+
+#[test]
+fn sets_one_slot(rt: HostRuntime) -> Result<(), Fail> {
+    let alloc = rt.alloc();
+    let (base, root) = eight(alloc)?;
+    let mut layer = Layer::over(&base);
+    let set = layer.set(root, 5, 9)?;
+    assert_eq!(rt;
+        list(alloc, &layer, set)?.as_slice(),
+        [10, 11, 12, 13, 14, 9, 16, 17].as_slice()
+    );
+    assert_eq!(rt;
+        list(alloc, &layer, root)?.as_slice(),
+        [10, 11, 12, 13, 14, 15, 16, 17].as_slice()
+    );
+    assert!(rt; layer.le(set, root));
+    assert!(rt; !layer.le(root, set));
+    Ok(())
+}
+
+/// A join that is counted in a ledger of its own.
+fn counted<L: Ledger>(
+    blank: Blank,
+    layer: &mut Layer<u32>,
+    a: Root,
+    b: Root,
+) -> Result<Root, AllocError>
+    requires name { blank.name ≡ L.name }
+    requires parts { blank.parts ≡ L.parts }
+    requires some { 0 < blank.parts }
+    requires first { Belongs ⟦<u32 as Slot>⟧.like layer.old a }
+    requires second { Belongs ⟦<u32 as Slot>⟧.like layer.old b }
+    ensures root { IfOk result (λ made. Belongs ⟦<u32 as Slot>⟧.like layer.new made) }
+    ensures older { Grows ⟦<u32 as Slot>⟧.like layer.old layer.new }
+{
+    let mut steps = Steps::<L>::new(blank);
+    layer.join(a, b, &mut steps)
+}
+
+/// A join that nobody counts.
+fn joined(layer: &mut Layer<u32>, a: Root, b: Root) -> Result<Root, AllocError>
+    requires first { Belongs ⟦<u32 as Slot>⟧.like layer.old a }
+    requires second { Belongs ⟦<u32 as Slot>⟧.like layer.old b }
+    ensures root { IfOk result (λ made. Belongs ⟦<u32 as Slot>⟧.like layer.new made) }
+    ensures older { Grows ⟦<u32 as Slot>⟧.like layer.old layer.new }
+{
+    counted::<Brand>(Blank::new(1), layer, a, b)
+}
+
+#[test]
+fn joins_two_lists(rt: HostRuntime) -> Result<(), Fail> {
+    let alloc = rt.alloc();
+    let (base, root) = eight(alloc)?;
+    let mut layer = Layer::over(&base);
+    let low = layer.set(root, 5, 9)?;
+    let high = layer.set(root, 2, 99)?;
+    let both = joined(&mut layer, low, high)?;
+    assert_eq!(rt;
+        list(alloc, &layer, both)?.as_slice(),
+        [10, 11, 99, 13, 14, 15, 16, 17].as_slice()
+    );
+    assert_eq!(rt;
+        list(alloc, &layer, low)?.as_slice(),
+        [10, 11, 12, 13, 14, 9, 16, 17].as_slice()
+    );
+    Ok(())
+}
+
+#[test]
+fn compacts_two_roots(rt: HostRuntime) -> Result<(), Fail> {
+    let alloc = rt.alloc();
+    let (base, root) = eight(alloc)?;
+    let mut layer = Layer::over(&base);
+    let set = layer.set(root, 5, 9)?;
+    let (kept, roots) = layer.compact(&[set, root])?;
+    let again = Layer::over(&kept);
+    assert!(rt; kept.first() == roots[0]);
+    assert_eq!(rt;
+        list(alloc, &again, roots[0])?.as_slice(),
+        [10, 11, 12, 13, 14, 9, 16, 17].as_slice()
+    );
+    assert_eq!(rt;
+        list(alloc, &again, roots[1])?.as_slice(),
+        [10, 11, 12, 13, 14, 15, 16, 17].as_slice()
+    );
+    Ok(())
+}
