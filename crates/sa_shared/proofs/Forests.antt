@@ -5,9 +5,9 @@ use Rattle.std.specs.List.{All, AllZip}
 use Rattle.std.proofs.lemmas.List.Elements.{AllZip-get_or, length_all_zip}
 use Rattle.sa_shared.specs.declared.nodes.Node.{Node}
 use Rattle.sa_shared.specs.declared.nodes.Root.{Root}
-use Rattle.sa_shared.specs.Slots.{SlotLaws, EachSlot}
-use Rattle.sa_shared.specs.Tree.{Tree, values, tree_at, IsTree, Extends}
-use Rattle.sa_shared.specs.Forest.{Forest, Belongs, Grows, tree_of, list_of}
+use Rattle.sa_shared.specs.Slots.{EachSlot}
+use Rattle.sa_shared.specs.Tree.{values, tree_at, IsTree, Extends}
+use Rattle.sa_shared.specs.Forest.{Forest, Belongs, Grows, list_of}
 use Rattle.sa_shared.specs.Copies.{IsSameList}
 use Rattle.sa_shared.proofs.Lists.{each_self, each_between}
 use Rattle.sa_shared.proofs.Unfolding.{tree_kept}

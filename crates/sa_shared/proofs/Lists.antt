@@ -1,7 +1,7 @@
 -- Lists that two halves make up, slot by slot.
-use Rattle.std.proofs.Common.{◌≡◌, ℕ, zero, suc, ◌+◌, ◌-◌, ◌/◌, ◌<◌, ◌≤◌, List, [], ◌∷◌, ◌++◌, length, Option, Some, None, slice_get, length-append, refl, sym, ap, ◌∙◌, subst, arith}
+use Rattle.std.proofs.Common.{◌≡◌, ℕ, zero, suc, ◌-◌, ◌/◌, ◌≤◌, List, [], ◌∷◌, ◌++◌, length, slice_get, length-append, refl, sym, ap, ◌∙◌, subst, arith}
 use Rattle.std.specs.Prelude.{Result, Ok, Err, IfOk, slice_index_or, slice_set}
-use Rattle.sa_shared.specs.Slots.{SlotLaws, slotwise, EachSlot}
+use Rattle.sa_shared.specs.Slots.{slotwise, EachSlot}
 use Rattle.sa_shared.specs.Tree.{Tree, empty, leaf, fork, values, IsBalanced}
 use Rattle.sa_shared.proofs.Unfolding.{size}
 

@@ -1,10 +1,9 @@
 -- What is known along a way: the part's shape, the number of nodes, and the tree that a climb makes.
-use Rattle.std.proofs.Common.{◌≡◌, ℕ, zero, suc, ◌+◌, ◌-◌, ◌/◌, ◌<◌, ◌≤◌, List, [], ◌∷◌, ◌++◌, length, Bool, true, false, refl, sym, ap, ◌∙◌, subst, arith}
+use Rattle.std.proofs.Common.{◌≡◌, ℕ, ◌+◌, ◌-◌, ◌/◌, ◌≤◌, List, [], ◌∷◌, ◌++◌, length, true, false, refl, sym, ap, ◌∙◌, subst, arith}
 use Rattle.std.specs.Prelude.{slice_set, nat_lt, if◌then◌else◌}
 use Rattle.std.proofs.lemmas.List.{set-append_left, set-append_right}
 use Rattle.std.proofs.lemmas.Bool.Decides.{nat_tests}
 use Rattle.sa_shared.specs.declared.nodes.Node.{Node}
-use Rattle.sa_shared.specs.declared.nodes.Node.TheVariants.{Fork}
 use Rattle.sa_shared.specs.declared.way.Turn.{Turn}
 use Rattle.sa_shared.specs.declared.way.Turn.TheVariants.{Left, Right}
 use Rattle.sa_shared.specs.Tree.{Tree, empty, leaf, fork, values, IsBalanced, IsTree, tree_at, way_length, Extends}

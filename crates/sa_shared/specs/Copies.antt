@@ -1,5 +1,5 @@
 -- Copies of trees into a new list of nodes, where each node is copied once.
-use Rattle.std.specs.Prelude.{◌≡◌, ◌⊎◌, ℕ, suc, ◌<◌, Bool, true, List, [], ◌∷◌, length, Option, None, Some, slice_get}
+use Rattle.std.specs.Prelude.{◌≡◌, ◌⊎◌, ℕ, suc, ◌<◌, true, List, [], ◌∷◌, length, Option, None, Some, slice_get}
 use Rattle.std.specs.List.{list_any}
 use Rattle.sa_shared.specs.declared.nodes.Node.{Node}
 use Rattle.sa_shared.specs.declared.nodes.Root.{Root}

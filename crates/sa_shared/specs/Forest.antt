@@ -1,5 +1,5 @@
 -- What contracts see of a frozen part and of a layer: trees of one size, by their roots.
-use Rattle.std.specs.Prelude.{◌≡◌, ℕ, zero, suc, ◌+◌, ◌<◌, ◌≤◌, if◌then◌else◌, Bool, List, length, take}
+use Rattle.std.specs.Prelude.{◌≡◌, ℕ, zero, suc, ◌+◌, ◌<◌, ◌≤◌, if◌then◌else◌, List, length, take}
 use Rattle.std.specs.List.{list_any}
 use Rattle.sa_shared.specs.declared.nodes.Node.{Node}
 use Rattle.sa_shared.specs.declared.nodes.Root.{Root}

@@ -1,6 +1,6 @@
 -- Trees of one fixed shape, whose nodes stand in one list and may be shared (persistent balanced trees: Okasaki,
 -- Purely Functional Data Structures, 1998).
-use Rattle.std.specs.Prelude.{◌≡◌, ℕ, Bool, ◌+◌, ◌-◌, ◌/◌, ◌<◌, ◌≤◌, ◌==◌, ◌||◌, if◌then◌else◌, false, List, [], ◌∷◌, ◌++◌, length, reverse, take, nat_lt}
+use Rattle.std.specs.Prelude.{◌≡◌, ℕ, Bool, ◌+◌, ◌-◌, ◌/◌, ◌<◌, ◌≤◌, ◌==◌, ◌||◌, if◌then◌else◌, List, [], ◌∷◌, ◌++◌, length, reverse, take, nat_lt}
 use Rattle.sa_shared.specs.declared.nodes.Node.{Node}
 use Rattle.sa_shared.specs.declared.nodes.Node.TheVariants.{Empty, Leaf, Fork}
 

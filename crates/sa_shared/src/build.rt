@@ -1,7 +1,6 @@
 //! Trees built from lists, and copies of trees.
 
-ghost use Rattle.std.specs.Prelude.{◌<◌, ◌∷◌, [], Some, slice_set, OnOk, ◌≡◌, ℕ, ◌++◌, ◌≤◌, length, IfOk};
-ghost use Rattle.std.specs.Prelude.{None, replicate};
+ghost use Rattle.std.specs.Prelude.{◌≡◌, ℕ, ◌<◌, ◌≤◌, [], ◌∷◌, ◌++◌, length, slice_set, replicate, None, Some, IfOk, OnOk};
 ghost use Rattle.std.specs.List.{All, AllZip};
 ghost use Rattle.sa_shared.specs.Copies.{AreCopies, AreReached, AreWithin, IsSameList};
 ghost use Rattle.sa_shared.specs.Forest.{reached};

@@ -1,4 +1,4 @@
-use Rattle.std.proofs.Common.{rules, ◌≡◌, ◌-◌, ◌/◌, ◌++◌, length, length-append, append_assoc, sym, ap, ◌∙◌, subst, arith, append-nil}
+use Rattle.std.proofs.Common.{rules, ◌≡◌, ◌/◌, ◌++◌, length, length-append, append_assoc, sym, ap, ◌∙◌, subst, arith, append-nil}
 use Rattle.sa_shared.specs.Tree.{IsTree, tree_at, values}
 use Rattle.sa_shared.proofs.Lists.{if_ok_on}
 use Rattle.sa_shared.proofs.Unfolding.{size, emptied, leafed, forked, tree_kept}

@@ -1,5 +1,4 @@
 use Rattle.std.proofs.Common.{subst}
-use Rattle.sa_shared.specs.declared.nodes.Root.{Root}
 use Rattle.sa_shared.specs.Forest.{Forest, Belongs}
 use Rattle.sa_shared.proofs.Forests.{belongs_first}
 use Rattle.sa_shared.proofs.frozen.Frozen.first.Goals as goal

@@ -1,4 +1,4 @@
-use Rattle.std.proofs.Common.{rules, ◌≡◌, length, sym, ap, ◌∙◌, arith}
+use Rattle.std.proofs.Common.{rules, ◌≡◌, length, ◌∙◌}
 use Rattle.sa_shared.specs.Tree.{values, tree_at}
 use Rattle.sa_shared.specs.Forest.{Forest}
 use Rattle.sa_shared.proofs.Lists.{all_of}

@@ -1,10 +1,8 @@
-use Rattle.std.proofs.Common.{rules, ◌≡◌, ◌<◌, ℕ, List, length, map, slice_get, Some, sym, ap, ◌∙◌, subst, arith}
-use Rattle.std.specs.Prelude.{slice_index_or}
-use Rattle.std.specs.List.{All, AllZip}
+use Rattle.std.proofs.Common.{map, sym, ap, ◌∙◌, subst, arith}
+use Rattle.std.specs.List.{All}
 use Rattle.std.proofs.lemmas.List.Elements.{AllZip-get_or, length_all_zip}
 use Rattle.sa_shared.specs.declared.nodes.Root.{Root}
-use Rattle.sa_shared.specs.Slots.{EachSlot}
-use Rattle.sa_shared.specs.Tree.{values, tree_at, IsTree}
+use Rattle.sa_shared.specs.Tree.{IsTree}
 use Rattle.sa_shared.specs.Forest.{Forest, Belongs, list_of}
 use Rattle.sa_shared.specs.Copies.{IsSameList}
 use Rattle.sa_shared.proofs.Copying.{lists_same, first_get}

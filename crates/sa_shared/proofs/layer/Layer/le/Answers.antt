@@ -1,6 +1,5 @@
 use Rattle.std.proofs.Common.{sym, subst}
-use Rattle.sa_shared.specs.Forest.{Forest, Belongs}
-use Rattle.sa_shared.specs.Tree.{values, tree_at}
+use Rattle.sa_shared.specs.Forest.{Belongs}
 use Rattle.sa_shared.proofs.Lists.{each_between}
 use Rattle.sa_shared.proofs.layer.Layer.le.Goals as goal
 

@@ -1,7 +1,7 @@
 use Rattle.std.proofs.Common.{sym, subst}
 use Rattle.std.specs.Prelude.{slice_index_or}
 use Rattle.sa_shared.specs.Slots.{EachSlot}
-use Rattle.sa_shared.specs.Forest.{Forest, Belongs, list_of}
+use Rattle.sa_shared.specs.Forest.{Belongs, list_of}
 use Rattle.sa_shared.specs.Tree.{values, tree_at}
 use Rattle.sa_shared.proofs.Lists.{each_set}
 use Rattle.sa_shared.proofs.Forests.{belongs_now}

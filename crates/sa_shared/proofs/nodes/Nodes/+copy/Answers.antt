@@ -1,8 +1,7 @@
-use Rattle.std.proofs.Common.{rules, ◌≡◌, ◌++◌, [], ◌∷◌, ◌-◌, ◌/◌, ◌<◌, ℕ, List, length, Option, None, Some, slice_get, refl, sym, ap, ◌∙◌, subst, arith, inl, inr}
-use Rattle.sa_shared.specs.Tree.{Tree, IsTree, IsBalanced, tree_at, values, Extends}
-use Rattle.sa_shared.specs.Copies.{AreCopies, AreWithin, IsCopy}
+use Rattle.std.proofs.Common.{◌≡◌, ◌++◌, [], ◌∷◌, ℕ, sym, ap, ◌∙◌, subst, arith}
+use Rattle.sa_shared.specs.Tree.{Tree, IsTree, IsBalanced, tree_at, values}
 use Rattle.sa_shared.proofs.Lists.{if_ok_on, if_ok_two, no_slots}
-use Rattle.sa_shared.proofs.Unfolding.{extends_on, tree_kept, emptied, leafed, forked}
+use Rattle.sa_shared.proofs.Unfolding.{tree_kept, emptied, leafed, forked}
 use Rattle.sa_shared.proofs.Copying.{at_some, at_none, kept_copy, kept_within, still_free, halves_within}
 use Rattle.sa_shared.proofs.nodes.Nodes.+copy.Goals as goal
 

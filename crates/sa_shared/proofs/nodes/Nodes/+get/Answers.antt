@@ -1,4 +1,4 @@
-use Rattle.std.proofs.Common.{◌≡◌, ◌-◌, ◌/◌, ◌≤◌, slice_get, length, sym, ap, ◌∙◌, arith}
+use Rattle.std.proofs.Common.{◌≡◌, ◌-◌, ◌/◌, slice_get, length, ap, ◌∙◌, arith}
 use Rattle.sa_shared.specs.Tree.{values, tree_at}
 use Rattle.sa_shared.proofs.Unfolding.{size}
 use Rattle.sa_shared.proofs.Lists.{get_behind}

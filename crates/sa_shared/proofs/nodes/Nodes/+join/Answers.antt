@@ -1,11 +1,8 @@
-use Rattle.std.proofs.Common.{rules, ◌≡◌, ◌++◌, [], ◌∷◌, ◌-◌, ◌/◌, ◌<◌, ℕ, List, length, refl, sym, ap, ◌∙◌, subst, arith, inl, inr}
-use Rattle.std.specs.Prelude.{IfOk}
-use Rattle.sa_shared.specs.declared.nodes.Node.{Node}
-use Rattle.sa_shared.specs.declared.nodes.Node.TheVariants.{Leaf, Fork}
+use Rattle.std.proofs.Common.{rules, ◌≡◌, ◌++◌, [], ◌∷◌, sym, ap, ◌∙◌, subst, arith, inl, inr}
 use Rattle.sa_shared.specs.Slots.{slotwise, EachSlot}
-use Rattle.sa_shared.specs.Tree.{Tree, IsTree, IsBalanced, tree_at, values, differences, visits, Extends}
+use Rattle.sa_shared.specs.Tree.{IsTree, IsBalanced, tree_at, values, visits}
 use Rattle.sa_shared.proofs.Lists.{of_halves, joined_halves, slotwise_self, no_slots, if_ok_on}
-use Rattle.sa_shared.proofs.Unfolding.{extends_self, extends_push, extends_on, tree_kept, forked, leafed, one_visit, leaf_visit, fork_visits}
+use Rattle.sa_shared.proofs.Unfolding.{extends_on, tree_kept, forked, leafed, one_visit, leaf_visit, fork_visits}
 use Rattle.sa_shared.proofs.nodes.Nodes.+join.Goals as goal
 
 pub returns-then-a-b-clause-join : goal.returns-then-a-b-clause-join

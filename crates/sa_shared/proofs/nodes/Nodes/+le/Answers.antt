@@ -1,4 +1,4 @@
-use Rattle.std.proofs.Common.{◌≡◌, rules, refl, sym, ap, ◌∙◌, subst, arith, inl, inr, false, true, [], ◌-◌, ◌/◌}
+use Rattle.std.proofs.Common.{◌≡◌, rules, refl, sym, subst, arith, inl, inr, true, []}
 use Rattle.sa_shared.specs.Slots.{EachSlot}
 use Rattle.sa_shared.specs.Tree.{values, tree_at, IsBalanced}
 use Rattle.sa_shared.proofs.Lists.{of_halves, from_halves, each_self, no_slots}

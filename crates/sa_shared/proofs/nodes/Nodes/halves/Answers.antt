@@ -1,4 +1,4 @@
-use Rattle.std.proofs.Common.{◌≡◌, Some, ap, ◌∙◌, arith}
+use Rattle.std.proofs.Common.{Some, ap, ◌∙◌, arith}
 use Rattle.sa_shared.proofs.Unfolding.{inside_at, fork_at, halves_at, less_at}
 use Rattle.sa_shared.proofs.nodes.Nodes.halves.Goals as goal
 

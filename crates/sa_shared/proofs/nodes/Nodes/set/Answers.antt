@@ -1,7 +1,7 @@
-use Rattle.std.proofs.Common.{◌≡◌, ◌+◌, ◌≤◌, ℕ, List, [], ◌∷◌, ◌++◌, length, length-append, reverse, sym, ap, ◌∙◌, subst, arith}
+use Rattle.std.proofs.Common.{◌≡◌, [], ◌∷◌, ◌++◌, length, length-append, reverse, sym, ap, ◌∙◌, subst, arith}
 use Rattle.std.proofs.lemmas.List.{reverse-append}
 use Rattle.sa_shared.specs.declared.nodes.Node.TheVariants.{Leaf}
-use Rattle.sa_shared.specs.Tree.{IsTree, tree_at, values, Extends}
+use Rattle.sa_shared.specs.Tree.{tree_at}
 use Rattle.sa_shared.specs.Way.{IsWay, over}
 use Rattle.sa_shared.proofs.Unfolding.{leafed, extends_on}
 use Rattle.sa_shared.proofs.Ways.{part_balanced, one_slot, climbed}

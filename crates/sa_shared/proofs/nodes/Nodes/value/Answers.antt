@@ -1,4 +1,4 @@
-use Rattle.std.proofs.Common.{◌≡◌, Some, subst, ap, ◌∙◌, arith}
+use Rattle.std.proofs.Common.{Some, ap, ◌∙◌, arith}
 use Rattle.sa_shared.specs.declared.nodes.Node.TheVariants.{Leaf}
 use Rattle.sa_shared.proofs.Unfolding.{inside_at, read_at, leaf_at}
 use Rattle.sa_shared.proofs.nodes.Nodes.value.Goals as goal

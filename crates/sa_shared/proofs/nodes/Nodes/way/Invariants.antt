@@ -1,4 +1,4 @@
-use Rattle.std.proofs.Common.{ℕ, ◌<◌, reverse}
+use Rattle.std.proofs.Common.{◌<◌, reverse}
 use Rattle.sa_shared.specs.Tree.{IsTree, tree_at}
 use Rattle.sa_shared.specs.Way.{IsWay}
 use Rattle.sa_shared.proofs.nodes.Nodes.way.Given as goal
