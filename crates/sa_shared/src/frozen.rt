@@ -10,8 +10,9 @@ use crate::slot::Slot;
 use std::alloc::AllocError;
 use std::marker::Model;
 
-/// Lists of slots that stay as they are. Contracts see the number of slots of each list, the first root, and the
-/// nodes in their order.
+/// Lists of slots that stay as they are, each a balanced tree over nodes that lists may share (persistent trees:
+/// Okasaki, Purely Functional Data Structures, 1998). All lists have the same number of slots and are alike slot by
+/// slot. Contracts see that number, the first root, and the nodes in their order.
 #[derive(Drop)]
 pub struct Frozen<T> {
     pub(crate) slots: u32,
@@ -31,7 +32,8 @@ impl<T> Model for Frozen<T> {
 }
 
 impl<T: Slot> Frozen<T> {
-    /// A frozen part with one list, and that list's root.
+    /// A frozen part with one list, and that list's root. Slots are numbered from 0 in the list's order; a list with
+    /// more of them than 32 bits number wants too much memory.
     pub fn of(list: Vec<T>) -> Result<(Frozen<T>, Root), OutOfMemory>
         ensures list { IfOk result (λ made. list_of made.0 made.1 ≡ list.items) }
         ensures slots { IfOk result (λ made. made.0.slots ≡ length list.items) }

@@ -15,7 +15,8 @@ use std::marker::Model;
 use std::sync::ledger::Ledger;
 
 /// A frozen part, and lists that were made from its lists since. Contracts see both as one, as they see a frozen
-/// part.
+/// part. A root belongs to a layer where it names a list of the layer or of its base. No call changes a node: where
+/// one answers `OutOfMemory`, every older root stands for the list that it stood for.
 #[derive(Drop)]
 pub struct Layer<'a, T> {
     slots: u32,
@@ -55,7 +56,8 @@ impl<'a, T: Slot> Layer<'a, T> {
         self.nodes.get(self.slots, r.node, slot)
     }
 
-    /// The root of the same list with another value in a slot.
+    /// The root of the same list with another value in a slot. It adds at most a node for each one on the way from
+    /// the root to the slot.
     pub fn set(&mut self, r: Root, slot: u32, v: T) -> Result<Root, OutOfMemory>
         requires root { Belongs T.like self.old r }
         requires slot { slot < self.old.slots }

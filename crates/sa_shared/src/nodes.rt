@@ -13,7 +13,8 @@ pub struct Root {
     pub(crate) node: u32,
 }
 
-/// A node of a tree. A fork names the nodes of its two halves.
+/// A node of a tree. A fork over m slots, at least two, names the node of the first m - m / 2 slots and that of the
+/// others.
 #[derive(Drop)]
 pub(crate) enum Node<T> {
     /// The tree of no slots.
