@@ -14,6 +14,8 @@ mod path;
 mod pos;
 mod refusal;
 mod status;
+#[cfg(test)]
+mod tests;
 mod text;
 
 pub use alarm::{Alarm, Kind};
