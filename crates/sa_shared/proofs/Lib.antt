@@ -1,4 +1,5 @@
 pub mod Copying
+pub mod Depth
 pub mod Forests
 pub mod Lists
 pub mod Sample

@@ -1,6 +1,6 @@
 //! Layers of new lists over a frozen part.
 
-ghost use Rattle.std.specs.Prelude.{◌≡◌, ◌+◌, ◌*◌, ◌<◌, ◌≤◌, ◌↔◌, length, map, slice_get, slice_index_or, slice_set, Some, IfOk, OnOk, IsTrue};
+ghost use Rattle.std.specs.Prelude.{◌≡◌, ℕ, ◌+◌, ◌*◌, ◌^◌, ◌<◌, ◌≤◌, ◌↔◌, length, map, slice_get, slice_index_or, slice_set, Some, IfOk, OnOk, IsTrue};
 ghost use Rattle.std.specs.List.{All};
 ghost use Rattle.sa_shared.specs.Slots.{slotwise, EachSlot};
 ghost use Rattle.sa_shared.specs.Tree.{differences, visits, way_length};
@@ -66,6 +66,9 @@ impl<'a, T: Slot> Layer<'a, T> {
         ensures list { IfOk result (λ made. list_of self.new made ≡ slice_set (list_of self.old r) slot v) }
         ensures older { Grows T.like self.old self.new }
         ensures nodes { length self.new.nodes ≤ length self.old.nodes + way_length (tree_of self.old r) slot }
+
+        // a way through at most 2^d slots has at most d + 1 nodes: 17 for 65,536 slots
+        ensures depth { (d : ℕ) → self.old.slots ≤ 2 ^ d → length self.new.nodes ≤ length self.old.nodes + (d + 1) }
     {
         let node = self.nodes.set(self.slots, r.node, slot, v)?;
         Ok(Root { node })
