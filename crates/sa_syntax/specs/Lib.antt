@@ -1,0 +1,5 @@
+pub mod Words
+pub mod Trees
+pub mod Expressions
+pub mod Reading
+pub mod ReadExpr

@@ -1,0 +1,21 @@
+//! The syntax tree of a source, with one variant for each alternative of the grammar, and the grammar itself.
+//!
+//! It stands on values and tokens. `specs/` has the grammar as a relation between tokens and trees. Where the tree reaches
+//! itself it goes through `Items` and `Boxed`; a chain of operators of one level is a list, so that no long sum is deep.
+#![tactic(auto)]
+
+mod decl;
+mod expr;
+mod stmt;
+mod unit;
+
+pub use decl::{
+    Base, Bound, Declr, Field, Init, InitDeclr, Name, Qualified, Qualifier, ScalarWord, Specifiers,
+    Start, Struct,
+};
+pub use expr::{Expr, Link, Operator, Place, PlaceBase, Prefix, Step};
+pub use stmt::{
+    Arg, ArgValue, Block, BlockItem, Call, Compound, Directive, First, Group, Label, Local,
+    LocalDeclr, LocalStart, Simple, Stmt, Turn,
+};
+pub use unit::{Item, Param, Params, Unit};
