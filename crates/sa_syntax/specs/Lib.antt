@@ -1,5 +1,6 @@
 pub mod Words
 pub mod Trees
 pub mod Expressions
+pub mod Statements
 pub mod Reading
 pub mod ReadExpr

@@ -15,6 +15,10 @@ use Rattle.sa_syntax.specs.declared.decl.Qualifier.{Qualifier}
 use Rattle.sa_syntax.specs.declared.decl.Qualifier.TheVariants as q
 use Rattle.sa_syntax.specs.declared.decl.ScalarWord.{ScalarWord}
 use Rattle.sa_syntax.specs.declared.decl.ScalarWord.TheVariants as s
+use Rattle.sa_syntax.specs.declared.stmt.Compound.{Compound}
+use Rattle.sa_syntax.specs.declared.stmt.Compound.TheVariants as c
+use Rattle.sa_syntax.specs.declared.stmt.Turn.{Turn}
+use Rattle.sa_syntax.specs.declared.stmt.Turn.TheVariants as t
 use Rattle.sa_syntax.specs.declared.expr.Operator.{Operator}
 use Rattle.sa_syntax.specs.declared.expr.Operator.TheVariants as o
 use Rattle.sa_syntax.specs.declared.expr.Prefix.{Prefix}
@@ -127,3 +131,56 @@ is_star _ = false
 unfoldable pub is_through : List Token → Bool
 is_through [] = false
 is_through (t ∷ ts) = is_star t.word && is_name_and_close ts
+
+-- ISO C 6.5.16.2
+abbrev pub compound_of : Punct → Option Compound
+compound_of m.PlusEqual = Some c.Plus
+compound_of m.MinusEqual = Some c.Minus
+compound_of m.StarEqual = Some c.Times
+compound_of m.SlashEqual = Some c.Divide
+compound_of m.PercentEqual = Some c.Remainder
+compound_of m.ShiftLeftEqual = Some c.ShiftLeft
+compound_of m.ShiftRightEqual = Some c.ShiftRight
+compound_of m.AmpersandEqual = Some c.BitAnd
+compound_of m.CaretEqual = Some c.BitXor
+compound_of m.BarEqual = Some c.BitOr
+compound_of _ = None
+
+abbrev pub turn_of : Punct → Option Turn
+turn_of m.PlusPlus = Some t.Up
+turn_of m.MinusMinus = Some t.Down
+turn_of _ = None
+
+abbrev pub begins_with_star : List Token → Bool
+begins_with_star [] = false
+begins_with_star (t ∷ ts) = is_star t.word
+
+abbrev pub is_else : Word → Bool
+is_else (Key k.Else) = true
+is_else _ = false
+
+abbrev pub begins_with_else : List Token → Bool
+begins_with_else [] = false
+begins_with_else (t ∷ ts) = is_else t.word
+
+abbrev pub is_label : Word → Bool
+is_label (Key k.Case) = true
+is_label (Key k.Default) = true
+is_label _ = false
+
+abbrev pub begins_with_label : List Token → Bool
+begins_with_label [] = false
+begins_with_label (t ∷ ts) = is_label t.word
+
+abbrev pub is_void : Word → Bool
+is_void (Key k.Void) = true
+is_void _ = false
+
+abbrev pub begins_with_close : List Token → Bool
+begins_with_close [] = false
+begins_with_close (t ∷ ts) = is_close t.word
+
+-- `void` and `)`: the empty list of parameters
+unfoldable pub is_void_alone : List Token → Bool
+is_void_alone [] = false
+is_void_alone (t ∷ ts) = is_void t.word && begins_with_close ts
