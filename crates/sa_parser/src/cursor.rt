@@ -1,6 +1,6 @@
 //! A cursor over the tokens of a source.
 
-ghost use Rattle.std.specs.Prelude.{◌≡◌, ◌≤◌, IfOk, suc, length};
+ghost use Rattle.std.specs.Prelude.{◌≡◌, ◌≤◌, ◌<◌, IfOk, suc, length};
 ghost use Rattle.sa_syntax.specs.Reading as spec;
 ghost use Rattle.sa_syntax.specs.Words as words;
 ghost use Rattle.sa_syntax.specs.Trees as tree;
@@ -29,6 +29,10 @@ impl<'a> Model for Tokens<'a> {
     ghost Value = { List Token };
 
     ghost view = { λ t. t.rest.now };
+
+    ghost use Rattle.std.specs.Prelude.{length, ◌<◌};
+
+    ghost invariant = { λ t. length t.rest.now < 18446744073709551615 };
 }
 
 fn same_mark(a: Punct, b: Punct) -> bool
@@ -39,6 +43,7 @@ fn same_mark(a: Punct, b: Punct) -> bool
 
 impl<'a> Tokens<'a> {
     pub fn new(tokens: &'a [Token]) -> Tokens<'a>
+        requires { length tokens.now < 18446744073709551615 }
         ensures { result ≡ tokens.now }
     {
         Tokens { rest: tokens }
@@ -151,11 +156,11 @@ impl<'a> Tokens<'a> {
         }
     }
 
-    /// How many tokens are left.
-    pub fn left(&self) -> usize
-        ensures { result ≡ length self.now }
+    /// More turns than a loop takes that goes past a token in each.
+    pub fn turns(&self) -> usize
+        ensures { result ≡ spec.turns self.now }
     {
-        self.rest.len()
+        self.rest.len() + 1
     }
 
     /// The place of the token at the front.

@@ -5,6 +5,7 @@
 #![tactic(auto)]
 
 mod cursor;
+mod expr;
 mod fault;
 mod names;
 mod words;
