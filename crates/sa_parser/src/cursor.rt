@@ -6,6 +6,7 @@ ghost use Rattle.sa_syntax.specs.Words as words;
 ghost use Rattle.sa_syntax.specs.Trees as tree;
 ghost use Rattle.sa_syntax.specs.ReadExpr as read;
 ghost use Rattle.sa_syntax.specs.ReadStmt as stmt;
+ghost use Rattle.sa_parser.specs.Cursor as cursor;
 ghost use Rattle.sa_parser.specs.Outcome.{Reads};
 
 use crate::fault::Stop;
@@ -255,6 +256,55 @@ impl<'a> Tokens<'a> {
                 ..
             ] => names.contains(text.bytes()),
             _ => false,
+        }
+    }
+
+    /// The tokens after the next one.
+    pub fn ahead(&self) -> Tokens<'a>
+        ensures { result ≡ spec.after self.now }
+    {
+        match self.rest {
+            [] => Tokens { rest: self.rest },
+            [_, after @ ..] => Tokens { rest: after },
+        }
+    }
+
+    /// Whether a name comes next.
+    #[tactic(auto, unfolding(sa_syntax::specs::Reading::name_at))]
+    pub fn sees_name(&self) -> bool
+        ensures { result ≡ read.is_some (spec.name_at self.now) }
+    {
+        matches!(
+            self.rest,
+            [
+                Token {
+                    word: Word::Name(_),
+                    ..
+                },
+                ..
+            ]
+        )
+    }
+
+    /// The integer constant at the front: its value, whether it has a `u`, how many `l`, whether it is decimal.
+    #[tactic(auto, unfolding(crate::specs::Cursor::number_at))]
+    pub fn number(&self) -> Option<(u64, bool, u8, bool)>
+        ensures { result ≡ cursor.number_at self.now }
+    {
+        match self.rest {
+            [
+                Token {
+                    word: Word::Number {
+                        value,
+                        unsigned,
+                        longs,
+                        decimal,
+                    },
+                    ..
+                },
+                ..
+            ] => Some((*value, *unsigned, *longs, *decimal)),
+            _ => None,
         }
     }
 
