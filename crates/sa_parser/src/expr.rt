@@ -194,7 +194,7 @@ impl Grammar<'_> {
 
     /// An expression.
     #[cycle(expression)]
-    #[tactic(auto, unfolding(sa_syntax::specs::ReadExpr::whole, sa_syntax::specs::ReadExpr::choice))]
+    #[tactic(auto, using(crate::proofs::Rooms::inside_deeper), unfolding(sa_syntax::specs::ReadExpr::whole, sa_syntax::specs::ReadExpr::choice))]
     pub fn whole(&self, tokens: &mut Tokens<'_>, room: usize) -> Result<Expr, Stop>
         ensures { Reads (read.whole self.now.names.now room (inside self.now.names.now room) tokens.old) result tokens.new }
     {
@@ -288,7 +288,7 @@ impl Grammar<'_> {
     }
 
     #[cycle(expression)]
-    #[tactic(auto, unfolding(sa_syntax::specs::ReadExpr::prefixed))]
+    #[tactic(auto, using(crate::proofs::Rooms::inside_deeper), unfolding(sa_syntax::specs::ReadExpr::prefixed))]
     fn prefixed(&self, tokens: &mut Tokens<'_>, room: usize, op: Prefix) -> Result<Expr, Stop>
         ensures { Reads (read.prefixed self.now.names.now room (inside self.now.names.now room) op tokens.old) result tokens.new }
     {
@@ -299,7 +299,7 @@ impl Grammar<'_> {
 
     /// What begins with an opening bracket: a place through a reference, a cast, or an expression in brackets.
     #[cycle(expression)]
-    #[tactic(auto, unfolding(sa_syntax::specs::ReadExpr::bracketed, sa_syntax::specs::ReadExpr::cast, sa_syntax::specs::ReadExpr::bracket))]
+    #[tactic(auto, using(crate::proofs::Rooms::inside_deeper), unfolding(sa_syntax::specs::ReadExpr::bracketed, sa_syntax::specs::ReadExpr::cast, sa_syntax::specs::ReadExpr::bracket))]
     fn bracketed(&self, tokens: &mut Tokens<'_>, room: usize) -> Result<Expr, Stop>
         ensures { Reads (read.bracketed self.now.names.now room (inside self.now.names.now room) tokens.old) result tokens.new }
     {
@@ -368,7 +368,7 @@ impl Grammar<'_> {
     }
 
     #[cycle(expression)]
-    #[tactic(auto, unfolding(sa_syntax::specs::ReadExpr::a_step, sa_syntax::specs::ReadExpr::index))]
+    #[tactic(auto, using(crate::proofs::Rooms::inside_deeper), unfolding(sa_syntax::specs::ReadExpr::a_step, sa_syntax::specs::ReadExpr::index))]
     fn step(&self, tokens: &mut Tokens<'_>, room: usize) -> Result<Step, Stop>
         ensures { Reads (read.a_step self.now.names.now room (inside self.now.names.now room) tokens.old) result tokens.new }
     {
@@ -451,7 +451,7 @@ impl Grammar<'_> {
 
     /// The fields of a struct in their braces.
     #[cycle(expression)]
-    #[tactic(auto, unfolding(sa_syntax::specs::ReadExpr::body))]
+    #[tactic(auto, using(crate::proofs::Rooms::inside_deeper), unfolding(sa_syntax::specs::ReadExpr::body))]
     fn body(&self, tokens: &mut Tokens<'_>, room: usize, tag: Option<Name>) -> Result<Base, Stop>
         ensures { Reads (read.body self.now.names.now room (inside self.now.names.now room) tag tokens.old) result tokens.new }
     {
@@ -559,7 +559,7 @@ impl Grammar<'_> {
     }
 
     #[cycle(expression)]
-    #[tactic(auto, unfolding(sa_syntax::specs::ReadExpr::a_bound))]
+    #[tactic(auto, using(crate::proofs::Rooms::inside_deeper), unfolding(sa_syntax::specs::ReadExpr::a_bound))]
     fn bound(&self, tokens: &mut Tokens<'_>, room: usize) -> Result<Bound, Stop>
         ensures { Reads (read.a_bound self.now.names.now room (inside self.now.names.now room) tokens.old) result tokens.new }
     {

@@ -76,3 +76,18 @@ decreases-links l = l.room * 60 + (l.level * 3 + 14)
 
 abbrev pub decreases-link : goal.decreases-link
 decreases-link l = l.room * 60 + (l.level * 3 + 13)
+
+abbrev pub invariant-links-loop-turn : goal.invariant-links-loop-turn
+invariant-links-loop-turn l = many (read.sees_operator l.fn.level) (read.a_link l.fn.self.names.now l.fn.room (inside l.fn.self.names.now l.fn.room) (read.ranked l.fn.self.names.now l.fn.room (inside l.fn.self.names.now l.fn.room) (l.fn.level - 1))) l.fn.tokens ≡ while_from (read.sees_operator l.fn.level) (read.a_link l.fn.self.names.now l.fn.room (inside l.fn.self.names.now l.fn.room) (read.ranked l.fn.self.names.now l.fn.room (inside l.fn.self.names.now l.fn.room) (l.fn.level - 1))) (l._turn-end - l._turn) l.found l.tokens
+
+abbrev pub invariant-steps-loop-turn : goal.invariant-steps-loop-turn
+invariant-steps-loop-turn l = many (read.sees_step) (read.a_step l.fn.self.names.now l.fn.room (inside l.fn.self.names.now l.fn.room)) l.fn.tokens ≡ while_from (read.sees_step) (read.a_step l.fn.self.names.now l.fn.room (inside l.fn.self.names.now l.fn.room)) (l._turn-end - l._turn) l.found l.tokens
+
+abbrev pub invariant-more_fields-loop-turn : goal.invariant-more_fields-loop-turn
+invariant-more_fields-loop-turn l = many (read.no_brace l.fn.self.names.now l.fn.room (inside l.fn.self.names.now l.fn.room)) (read.field l.fn.self.names.now l.fn.room (inside l.fn.self.names.now l.fn.room)) l.fn.tokens ≡ while_from (read.no_brace l.fn.self.names.now l.fn.room (inside l.fn.self.names.now l.fn.room)) (read.field l.fn.self.names.now l.fn.room (inside l.fn.self.names.now l.fn.room)) (l._turn-end - l._turn) l.found l.tokens
+
+abbrev pub invariant-more_declrs-loop-turn : goal.invariant-more_declrs-loop-turn
+invariant-more_declrs-loop-turn l = many (sees m.Comma) (read.next_declr l.fn.self.names.now l.fn.room (inside l.fn.self.names.now l.fn.room)) l.fn.tokens ≡ while_from (sees m.Comma) (read.next_declr l.fn.self.names.now l.fn.room (inside l.fn.self.names.now l.fn.room)) (l._turn-end - l._turn) l.found l.tokens
+
+abbrev pub invariant-bounds-loop-turn : goal.invariant-bounds-loop-turn
+invariant-bounds-loop-turn l = many (sees m.OpenBracket) (read.a_bound l.fn.self.names.now l.fn.room (inside l.fn.self.names.now l.fn.room)) l.fn.tokens ≡ while_from (sees m.OpenBracket) (read.a_bound l.fn.self.names.now l.fn.room (inside l.fn.self.names.now l.fn.room)) (l._turn-end - l._turn) l.found l.tokens
