@@ -5,3 +5,4 @@ pub mod Statements
 pub mod Reading
 pub mod ReadExpr
 pub mod ReadStmt
+pub mod SoundLaws

@@ -6,6 +6,7 @@
 
 mod decl;
 mod expr;
+mod laws;
 mod stmt;
 mod unit;
 
@@ -13,6 +14,7 @@ pub use decl::{
     Base, Bound, Declr, Field, Init, InitDeclr, Name, Qualified, Qualifier, ScalarWord, Specifiers,
     Start, Struct,
 };
+pub use laws::readings_are_expressions;
 pub use expr::{Expr, Link, Operator, Place, PlaceBase, Prefix, Step};
 pub use stmt::{
     Arg, ArgValue, Block, BlockItem, Call, Compound, Directive, First, Group, Label, Local,

@@ -1,0 +1,12 @@
+-- The reader and the grammar, and readers with more room.
+use Rattle.std.specs.Prelude.{ℕ, ◌≡◌, List}
+use Rattle.sa_tokens.specs.declared.token.Token.{Token}
+use Rattle.sa_syntax.specs.declared.expr.Expr.{Expr}
+use Rattle.sa_syntax.specs.Words.{Names}
+use Rattle.sa_syntax.specs.Expressions.{Whole}
+use Rattle.sa_syntax.specs.Reading.{Got}
+use Rattle.sa_syntax.specs.ReadExpr.{whole, inside}
+
+-- What is read as an expression is one by the grammar: its tokens, and then those that are left.
+abbrev pub ReadingsAreExpressions : Type 0
+ReadingsAreExpressions = (ns : Names) (n : ℕ) (ts us : List Token) (a : Expr) → whole ns n (inside ns n) ts ≡ Got a us → Whole ns n ts a us
