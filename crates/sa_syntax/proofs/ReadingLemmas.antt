@@ -24,6 +24,11 @@ then_yields (Yields.got {a} {us} q) go = go a us q
 then_yields Yields.stuck go = Yields.stuck
 then_yields Yields.deep go = Yields.deep
 
+pub map_yields : {A : Type 0} {P Q : A → List Token → Type 0} {r : Read A} → ((a : A) (us : List Token) → P a us → Q a us) → Yields P r → Yields Q r
+map_yields go (Yields.got {a} {us} p) = Yields.got (go a us p)
+map_yields go Yields.stuck = Yields.stuck
+map_yields go Yields.deep = Yields.deep
+
 pub if_yields : {A : Type 0} {P : A → List Token → Type 0} {r s : Read A} (b : Bool) → (b ≡ true → Yields P r) → (b ≡ false → Yields P s) → Yields P (cond b r s)
 if_yields true go other = go refl
 if_yields false go other = other refl
@@ -46,3 +51,121 @@ is_mark-same m (Mark k) h = ap Mark (sym (same_true the_type tt m k h))
 is_mark-same m (Name w) h = cc
 is_mark-same m (Number v u l d) h = cc
 is_mark-same m (Key k) h = cc
+
+-- tokens that begin with this mark, and the tokens after it
+pub data Marked (m : Punct) : List Token → Pos → List Token → Type 0 where
+  marked : {p : Pos} {us : List Token} → Marked m (mark m p ∷ us) p us
+
+marked-is : (m : Punct) (w : Word) (p : Pos) (us : List Token) → w ≡ Mark m → Marked m ((record { word = w; pos = p }) ∷ us) p us
+marked-is m w p us e = subst (λ (v : Word). Marked m ((record { word = v; pos = p }) ∷ us) p us) (sym e) Marked.marked
+
+pub expect-yields : (m : Punct) (ts : List Token) → Yields (λ p us. Marked m ts p us) (expect m ts)
+unfolding expect
+expect-yields m [] = Yields.stuck
+expect-yields m (t ∷ ts) = if_yields (is_mark m t.word) (λ h. Yields.got (marked-is m t.word t.pos ts (is_mark-same m t.word h))) (λ h. Yields.stuck)
+
+-- the same where one more may be open
+pub data Opened (m : Punct) : ℕ → List Token → Pos → List Token → Type 0 where
+  opened : {n : ℕ} {p : Pos} {us : List Token} → Opened m (suc n) (mark m p ∷ us) p us
+
+opened-is : (m : Punct) (n : ℕ) (w : Word) (p : Pos) (us : List Token) → w ≡ Mark m → Opened m (suc n) ((record { word = w; pos = p }) ∷ us) p us
+opened-is m n w p us e = subst (λ (v : Word). Opened m (suc n) ((record { word = v; pos = p }) ∷ us) p us) (sym e) Opened.opened
+
+opens_any-yields : (n : ℕ) (m : Punct) (ts : List Token) → sees m ts ≡ true → Yields (λ p us. Opened m n ts p us) (opens_any n ts)
+unfolding opens_any sees
+opens_any-yields n m [] h = cc
+opens_any-yields zero m (t ∷ ts) h = Yields.deep
+opens_any-yields (suc n) m (t ∷ ts) h = Yields.got (opened-is m n t.word t.pos ts (is_mark-same m t.word h))
+
+pub opens-yields : (n : ℕ) (m : Punct) (ts : List Token) → Yields (λ p us. Opened m n ts p us) (opens n m ts)
+unfolding opens
+opens-yields n m ts = if_yields (sees m ts) (λ h. opens_any-yields n m ts h) (λ h. Yields.stuck)
+
+pub data AnyOpened (w : Word) : ℕ → List Token → Pos → List Token → Type 0 where
+  any_opened : {n : ℕ} {p : Pos} {us : List Token} → AnyOpened w (suc n) ((record { word = w; pos = p }) ∷ us) p us
+
+-- ---- names
+pub data IsWord : List Token → Named → List Token → Type 0 where
+  is_word : {w : List ℕ} {p : Pos} {us : List Token} → IsWord (word w p ∷ us) (named w p) us
+
+pub taken_yields : {A : Type 0} {P : A → List Token → Type 0} (o : Option A) (ts : List Token) → ((a : A) → o ≡ Some a → P a (after ts)) → Yields P (taken o ts)
+taken_yields None ts go = Yields.stuck
+taken_yields (Some a) ts go = Yields.got (go a refl)
+
+name_by-is : (w : Word) (p : Pos) (us : List Token) (x : Named) → name_by w p ≡ Some x → IsWord ((record { word = w; pos = p }) ∷ us) x us
+name_by-is (Name w) p us x h = let e : named w p ≡ x = cc in subst (λ (y : Named). IsWord (word w p ∷ us) y us) e IsWord.is_word
+name_by-is (Number v u l d) p us x h = cc
+name_by-is (Key k) p us x h = cc
+name_by-is (Mark m) p us x h = cc
+
+pub name_at-is : (ts : List Token) (x : Named) → name_at ts ≡ Some x → IsWord ts x (after ts)
+unfolding name_at
+name_at-is [] x h = cc
+name_at-is (t ∷ ts) x h = name_by-is t.word t.pos ts x h
+
+pub any_name-yields : (ts : List Token) → Yields (λ x us. IsWord ts x us) (any_name ts)
+unfolding any_name
+any_name-yields ts = taken_yields (name_at ts) ts (name_at-is ts)
+
+-- a name that is no type name
+pub data IsVariable (ns : Names) : List Token → Named → List Token → Type 0 where
+  is_variable : {w : List ℕ} {p : Pos} {us : List Token} → is_type_name ns w ≡ false → IsVariable ns (word w p ∷ us) (named w p) us
+
+variable_from : (ns : Names) (ts : List Token) (x : Named) (us : List Token) → IsWord ts x us → is_type_name ns x.text ≡ false → IsVariable ns ts x us
+variable_from ns _ _ _ (IsWord.is_word) h = IsVariable.is_variable h
+
+unless_type-is : (ns : Names) (o : Option Named) (x : Named) → unless_type ns o ≡ Some x → (o ≡ Some x) × (is_type_name ns x.text ≡ false)
+unless_type-is ns None x h = cc
+unless_type-is ns (Some y) x h = unless_case ns y x (is_type_name ns y.text) refl h
+  where
+    unless_case : (ns : Names) (y x : Named) (b : Bool) → is_type_name ns y.text ≡ b → cond b None (Some y) ≡ Some x → (Some y ≡ Some x) × (is_type_name ns x.text ≡ false)
+    unless_case ns y x true e h = cc
+    unless_case ns y x false e h = let same : y ≡ x = cc in (h, subst (λ (z : Named). is_type_name ns z.text ≡ false) same e)
+
+pub variable-yields : (ns : Names) (ts : List Token) → Yields (λ x us. IsVariable ns ts x us) (variable ns ts)
+unfolding variable
+variable-yields ns ts = taken_yields (unless_type ns (name_at ts)) ts (λ x h. let k = unless_type-is ns (name_at ts) x h in variable_from ns ts x (after ts) (name_at-is ts x k.0) k.1)
+
+-- ---- keywords and marks at the front
+pub data Keyed (k : Keyword) : List Token → Type 0 where
+  keyed : {p : Pos} {us : List Token} → Keyed k (key k p ∷ us)
+
+key_by-is : (w : Word) (p : Pos) (us : List Token) (k : Keyword) → key_by w ≡ Some k → Keyed k ((record { word = w; pos = p }) ∷ us)
+key_by-is (Name w) p us k h = cc
+key_by-is (Number v u l d) p us k h = cc
+key_by-is (Key j) p us k h = let e : j ≡ k = cc in subst (λ i. Keyed i (key j p ∷ us)) e Keyed.keyed
+key_by-is (Mark m) p us k h = cc
+
+pub key_at-is : (ts : List Token) (k : Keyword) → key_at ts ≡ Some k → Keyed k ts
+unfolding key_at
+key_at-is [] k h = cc
+key_at-is (t ∷ ts) k h = key_by-is t.word t.pos ts k h
+
+mark_by-is : (w : Word) (p : Pos) (us : List Token) (m : Punct) → mark_by w ≡ Some m → Marked m ((record { word = w; pos = p }) ∷ us) p us
+mark_by-is (Name w) p us m h = cc
+mark_by-is (Number v u l d) p us m h = cc
+mark_by-is (Key j) p us m h = cc
+mark_by-is (Mark j) p us m h = let e : j ≡ m = cc in subst (λ i. Marked i (mark j p ∷ us) p us) e Marked.marked
+
+-- the place of the mark at the front
+pub mark_at-is : (ts : List Token) (m : Punct) → mark_at ts ≡ Some m → (p : Pos) × Marked m ts p (after ts)
+unfolding mark_at
+mark_at-is [] m h = cc
+mark_at-is (t ∷ ts) m h = (t.pos, mark_by-is t.word t.pos ts m h)
+
+-- ---- lists
+-- each item is in front of a list of them
+while_from_yields : {A : Type 0} (Star : List Token → List A → List Token → Type 0) (goes : List Token → Bool) (item : Parser A) → ((us : List Token) → Star us [] us)
+    → ((ts : List Token) → goes ts ≡ true → Yields (λ x us. (xs : List A) (vs : List Token) → Star us xs vs → Star ts (x ∷ xs) vs) (item ts))
+    → (n : ℕ) (found : List A) (ts : List Token) → Yields (λ xs us. (ys : List A) × (xs ≡ found ++ ys) × Star ts ys us) (while_from goes item n found ts)
+unfolding while_from
+while_from_yields Star goes item none one zero found ts = Yields.stuck
+while_from_yields Star goes item none one (suc n) found ts = if_yields (goes ts)
+    (λ h. then_yields (one ts h) (λ x us more. map_yields (λ xs vs p. (x ∷ p.0, p.1 ∙ append_assoc found (x ∷ []) p.0, more p.0 vs p.2)) (while_from_yields Star goes item none one n (found ++ x ∷ []) us)))
+    (λ h. Yields.got ([], sym (append-nil found), none ts))
+
+pub many_yields : {A : Type 0} (Star : List Token → List A → List Token → Type 0) (goes : List Token → Bool) (item : Parser A) → ((us : List Token) → Star us [] us)
+    → ((ts : List Token) → goes ts ≡ true → Yields (λ x us. (xs : List A) (vs : List Token) → Star us xs vs → Star ts (x ∷ xs) vs) (item ts))
+    → (ts : List Token) → Yields (λ xs us. Star ts xs us) (many goes item ts)
+many_yields Star goes item none one ts =
+    map_yields (λ xs us p. subst (λ ys. Star ts ys us) (sym p.1) p.2) (while_from_yields Star goes item none one (turns ts) [] ts)

@@ -1,4 +1,4 @@
-use Rattle.sa_syntax.proofs.ReadingLemmas.{is_mark-same, yielded}
+use Rattle.sa_syntax.proofs.ExprSound.{whole_sound}
 use Rattle.sa_syntax.proofs.laws.readings_are_expressions.Goals as goal
 
 pub returns : goal.returns
