@@ -35,7 +35,7 @@ use Rattle.sa_syntax.specs.Expressions.{Whole, Ranked, Links, Unary, Place', Ste
 use Rattle.sa_syntax.specs.Reading.{Parser, Read, Got, Stuck, Deep, and_then, sees, after, expect, opens_any, opens, any_name, variable, name_at, key_at, mark_at, taken, many, turns, while_from}
 use Rattle.sa_syntax.specs.ReadExpr as read
 use Rattle.sa_syntax.specs.ReadExpr.{Inner, inside}
-use Rattle.sa_syntax.proofs.ReadingLemmas.{Yields, then_yields, map_yields, if_yields, yielded, Marked, expect-yields, Opened, opens-yields, IsWord, any_name-yields, name_at-is, IsVariable, variable-yields, Keyed, key_at-is, mark_at-is, taken_yields, many_yields}
+use Rattle.sa_syntax.proofs.ReadingLemmas.{Yields, then_yields, map_yields, if_yields, yielded, Marked, expect-yields, Opened, opens-yields, opens_front, IsWord, any_name-yields, name_at-is, IsVariable, variable-yields, Keyed, key_at-is, mark_at-is, taken_yields, many_yields}
 
 -- where one more is open
 abbrev Within : {A : Type 0} → (ℕ → List Token → A → List Token → Type 0) → ℕ → List Token → A → List Token → Type 0
@@ -45,6 +45,10 @@ Within P (suc n) ts a us = P n ts a us
 -- one field or more
 pub data SomeFields (ns : Names) : ℕ → List Token → List Field → List Token → Type 0 where
   some_fields : {n : ℕ} {ts us : List Token} {f : Field} {fs : List Field} → Fields ns n ts (f ∷ fs) us → SomeFields ns n ts (f ∷ fs) us
+
+-- one declared name or more
+pub data SomeDeclrs (ns : Names) (n : ℕ) : List Token → List Declr → List Token → Type 0 where
+  some_declrs : {ts us : List Token} {d : Declr} {ds : List Declr} → Declrs ns n ts (d ∷ ds) us → SomeDeclrs ns n ts (d ∷ ds) us
 
 -- the readers one deeper answer what the grammar has
 pub record IsSound (ns : Names) (n : ℕ) (inner : Inner) : Type 0 where
@@ -214,11 +218,7 @@ module _ (ns : Names) (n : ℕ) (inner : Inner) (sound : IsSound ns n inner) whe
   more_declrs-sound : (ts : List Token) → Yields (λ ds us. MoreDeclrs ts ds us) (many (sees m.Comma) (read.next_declr ns n inner) ts)
   more_declrs-sound = many_yields MoreDeclrs (sees m.Comma) (read.next_declr ns n inner) (λ us ss d first. Declrs.last_declr first) (λ ts h. next_declr-sound ts)
 
-  -- one declared name or more
-  pub data SomeDeclrs : List Token → List Declr → List Token → Type 0 where
-    some_declrs : {ts us : List Token} {d : Declr} {ds : List Declr} → Declrs ns n ts (d ∷ ds) us → SomeDeclrs ts (d ∷ ds) us
-
-  pub declrs-sound : (ts : List Token) → Yields (λ ds us. SomeDeclrs ts ds us) (read.declrs ns n inner ts)
+  pub declrs-sound : (ts : List Token) → Yields (λ ds us. SomeDeclrs ns n ts ds us) (read.declrs ns n inner ts)
   unfolding read.declrs
   declrs-sound ts = then_yields (declr-sound ts) (λ d us i. then_yields (more_declrs-sound us) (λ ds vs more. Yields.got (SomeDeclrs.some_declrs (more ts d i))))
 
@@ -294,7 +294,7 @@ module _ (ns : Names) (n : ℕ) (inner : Inner) (sound : IsSound ns n inner) whe
   unfolding read.specifiers
   specifiers-sound ts = then_yields (qualifiers-sound ts) (λ qs us i. then_yields (base-sound us) (λ t vs j. Yields.got (Specifiers'.specifiers i j)))
 
-  field_from : (ts : List Token) (t : Specifiers) (us : List Token) (ds : List Declr) (vs : List Token) (p : Pos) (ws : List Token) → Specifiers' ns n ts t us → SomeDeclrs us ds vs → Marked m.Semicolon vs p ws
+  field_from : (ts : List Token) (t : Specifiers) (us : List Token) (ds : List Declr) (vs : List Token) (p : Pos) (ws : List Token) → Specifiers' ns n ts t us → SomeDeclrs ns n us ds vs → Marked m.Semicolon vs p ws
       → (fs : List Field) (xs : List Token) → Fields ns n ws fs xs → Fields ns n ts (tree.field t ds ∷ fs) xs
   field_from _ _ _ _ _ _ _ i (SomeDeclrs.some_declrs j) Marked.marked fs xs more = Fields.field i j more
 
@@ -312,5 +312,120 @@ module _ (ns : Names) (n : ℕ) (inner : Inner) (sound : IsSound ns n inner) whe
       then_yields (many_yields (λ ts fs us. Fields ns n ts fs us) (read.no_brace ns n inner) (read.field ns n inner) (λ us. Fields.no_field) (λ ts h. field-sound ts) us) (λ fs vs i.
       Yields.got (SomeFields.some_fields (more fs vs i))))
 
-pub whole_sound : (ns : Names) (n : ℕ) → IsSound ns n (inside ns n)
-whole_sound ns n = ?
+  -- ---- expressions
+  a_place-sound : (ts : List Token) → Yields (λ a us. Unary ns n ts a us) (read.a_place ns n inner ts)
+  unfolding read.a_place
+  a_place-sound ts = then_yields (place-sound ts) (λ x us i. Yields.got (Unary.place i))
+
+  cast_from : (n : ℕ) (ts : List Token) (p : Pos) (us : List Token) (t : Specifiers) (vs : List Token) (q : Pos) (ws : List Token) (a : Expr) (xs : List Token) → Opened m.OpenParen n ts p us → Within (Specifiers' ns) n us t vs → Marked m.CloseParen vs q ws
+      → Within (Unary ns) n ws a xs → Unary ns n ts (e.Cast p t a) xs
+  cast_from _ _ _ _ _ _ _ _ a xs Opened.opened i Marked.marked j = Unary.cast i j
+
+  cast-sound : (ts : List Token) → Yields (λ a us. Unary ns n ts a us) (read.cast ns n inner ts)
+  unfolding read.cast
+  cast-sound ts =
+      then_yields (opens-yields n m.OpenParen ts) (λ p us o.
+      then_yields (sound.specifiers us) (λ t vs i.
+      then_yields (expect-yields m.CloseParen vs) (λ q ws c.
+      then_yields (sound.unary ws) (λ a xs j.
+      Yields.got (cast_from n ts p us t vs q ws a xs o i c j)))))
+
+  bracket_from : (n : ℕ) (ts : List Token) (p : Pos) (us : List Token) (a : Expr) (vs : List Token) (q : Pos) (ws : List Token) → is_through (after ts) ≡ false → Opened m.OpenParen n ts p us → Within (Whole ns) n us a vs → Marked m.CloseParen vs q ws
+      → Unary ns n ts (e.Bracket p a) ws
+  bracket_from _ _ _ _ _ _ _ _ h Opened.opened i Marked.marked = Unary.bracket i h
+
+  bracket-sound : (ts : List Token) → is_through (after ts) ≡ false → Yields (λ a us. Unary ns n ts a us) (read.bracket ns n inner ts)
+  unfolding read.bracket
+  bracket-sound ts h =
+      then_yields (opens-yields n m.OpenParen ts) (λ p us o.
+      then_yields (sound.whole us) (λ a vs i.
+      then_yields (expect-yields m.CloseParen vs) (λ q ws c.
+      Yields.got (bracket_from n ts p us a vs q ws h o i c))))
+
+  bracketed-sound : (ts : List Token) → Yields (λ a us. Unary ns n ts a us) (read.bracketed ns n inner ts)
+  unfolding read.bracketed
+  bracketed-sound ts = if_yields (is_through (after ts)) (λ h. a_place-sound ts)
+      (λ h. if_yields (read.begins_type ns (after ts)) (λ g. cast-sound ts) (λ g. bracket-sound ts h))
+
+  prefix_from : (n : ℕ) (mk : Punct) (ts : List Token) (p : Pos) (us : List Token) (op : Prefix) (a : Expr) (vs : List Token) → prefix_of mk ≡ Some op → Opened mk n ts p us → Within (Unary ns) n us a vs → Unary ns n ts (e.Prefix op p a) vs
+  prefix_from _ _ _ _ _ _ _ _ h Opened.opened i = Unary.prefix h i
+
+  prefixed-sound : (mk : Punct) (op : Prefix) (p : Pos) (ts : List Token) → prefix_of mk ≡ Some op → Yields (λ a us. Unary ns n (mark mk p ∷ ts) a us) (read.prefixed ns n inner op (mark mk p ∷ ts))
+  unfolding read.prefixed
+  prefixed-sound mk op p ts h =
+      then_yields (opens_front n mk p ts) (λ q us o.
+      then_yields (sound.unary us) (λ a vs i.
+      Yields.got (prefix_from n mk (mark mk p ∷ ts) q us op a vs h o i)))
+
+  prefix_by-sound : (mk : Punct) (o : Option Prefix) (p : Pos) (ts : List Token) → prefix_of mk ≡ o → Yields (λ a us. Unary ns n (mark mk p ∷ ts) a us) (read.prefix_by ns n inner o (mark mk p ∷ ts))
+  prefix_by-sound mk None p ts h = Yields.stuck
+  prefix_by-sound mk (Some op) p ts h = prefixed-sound mk op p ts h
+
+  unary_mark-sound : (mk : Punct) (p : Pos) (ts : List Token) → Yields (λ a us. Unary ns n (mark mk p ∷ ts) a us) (read.unary_mark ns n inner mk (mark mk p ∷ ts))
+  unary_mark-sound m.OpenParen p ts = bracketed-sound (mark m.OpenParen p ∷ ts)
+  unary_mark-sound m.Star p ts = a_place-sound (mark m.Star p ∷ ts)
+  unary_mark-sound mk p ts = prefix_by-sound mk (prefix_of mk) p ts refl
+
+  unary_by-sound : (w : Word) (p : Pos) (ts : List Token) → Yields (λ a us. Unary ns n ((record { word = w; pos = p }) ∷ ts) a us) (read.unary_by ns n inner (record { word = w; pos = p }) ts)
+  unary_by-sound (Name w) p ts = a_place-sound (word w p ∷ ts)
+  unary_by-sound (Number v u l d) p ts = Yields.got Unary.number
+  unary_by-sound (Key j) p ts = Yields.stuck
+  unary_by-sound (Mark mk) p ts = unary_mark-sound mk p ts
+
+  pub unary-sound : (ts : List Token) → Yields (λ a us. Unary ns n ts a us) (read.unary ns n inner ts)
+  unfolding read.unary
+  unary-sound [] = Yields.stuck
+  unary-sound (t ∷ ts) = unary_by-sound t.word t.pos ts
+
+  link_from : (l : ℕ) (ts : List Token) (op : Operator) (us : List Token) (a : Expr) (vs : List Token) → IsOperator l ts op us → Ranked ns n l us a vs
+      → (xs : List Link) (ws : List Token) → Links ns n l vs xs ws → Links ns n l ts (tree.link op (tree.pos_of ts) a ∷ xs) ws
+  link_from l _ _ _ a vs (IsOperator.is_operator h level) i xs ws more = Links.link h level i more
+
+  a_link-sound : (l : ℕ) (operand : Parser Expr) → ((ts : List Token) → Yields (λ a us. Ranked ns n l ts a us) (operand ts)) → (ts : List Token) → read.sees_operator (suc l) ts ≡ true
+      → Yields (λ x us. (xs : List Link) (vs : List Token) → Links ns n l us xs vs → Links ns n l ts (x ∷ xs) vs) (read.a_link ns n inner operand ts)
+  unfolding read.a_link
+  a_link-sound l operand one ts h = then_yields (operator-sound l ts h) (λ op us o. then_yields (one us) (λ a vs i. Yields.got (link_from l ts op us a vs o i)))
+
+  chained-is : (l : ℕ) (ts : List Token) (a : Expr) (us : List Token) (xs : List Link) (vs : List Token) → Ranked ns n l ts a us → Links ns n l us xs vs → Ranked ns n (suc l) ts (read.chained a xs) vs
+  chained-is l ts a us _ _ i Links.no_link = Ranked.alone i
+  chained-is l ts a _ _ vs i (Links.link h level j more) = Ranked.chain i (Links.link h level j more)
+
+  chain-sound : (l : ℕ) (operand : Parser Expr) → ((ts : List Token) → Yields (λ a us. Ranked ns n l ts a us) (operand ts)) → (ts : List Token) → Yields (λ a us. Ranked ns n (suc l) ts a us) (read.chain ns n inner l operand ts)
+  unfolding read.chain
+  chain-sound l operand one ts = then_yields (one ts) (λ a us i.
+      then_yields (many_yields (λ ts xs us. Links ns n l ts xs us) (read.sees_operator (suc l)) (read.a_link ns n inner operand) (λ us. Links.no_link) (a_link-sound l operand one) us) (λ xs vs more.
+      Yields.got (chained-is l ts a us xs vs i more)))
+
+  pub ranked-sound : (l : ℕ) (ts : List Token) → Yields (λ a us. Ranked ns n l ts a us) (read.ranked ns n inner l ts)
+  unfolding read.ranked
+  ranked-sound zero ts = map_yields (λ a us i. Ranked.unary i) (unary-sound ts)
+  ranked-sound (suc l) ts = chain-sound l (read.ranked ns n inner l) (ranked-sound l) ts
+
+  choice_from : (n : ℕ) (ts : List Token) (c : Expr) (us : List Token) (p : Pos) (vs : List Token) (a : Expr) (ws : List Token) (q : Pos) (xs : List Token) (f : Expr) (ys : List Token) → Ranked ns n loosest ts c us → Opened m.Question n us p vs
+      → Within (Whole ns) n vs a ws → Marked m.Colon ws q xs → Within (Whole ns) n xs f ys → Whole ns n ts (e.Choice c p a f) ys
+  choice_from _ ts c _ _ _ a _ _ _ f ys r Opened.opened i Marked.marked j = Whole.choice r i j
+
+  choice-sound : (ts : List Token) (c : Expr) (us : List Token) → Ranked ns n loosest ts c us → Yields (λ a vs. Whole ns n ts a vs) (read.choice ns n inner c us)
+  unfolding read.choice
+  choice-sound ts c us r =
+      then_yields (opens-yields n m.Question us) (λ p vs o.
+      then_yields (sound.whole vs) (λ a ws i.
+      then_yields (expect-yields m.Colon ws) (λ q xs d.
+      then_yields (sound.whole xs) (λ f ys j.
+      Yields.got (choice_from n ts c us p vs a ws q xs f ys r o i d j)))))
+
+  pub whole-sound : (ts : List Token) → Yields (λ a us. Whole ns n ts a us) (read.whole ns n inner ts)
+  unfolding read.whole
+  whole-sound ts = then_yields (ranked-sound loosest ts) (λ c us r. if_yields (sees m.Question us) (λ h. choice-sound ts c us r) (λ h. Yields.got (Whole.binary r)))
+
+pub inside-sound : (ns : Names) (n : ℕ) → IsSound ns n (inside ns n)
+unfolding inside
+inside-sound ns zero = record { whole = λ ts. Yields.deep; unary = λ ts. Yields.deep; specifiers = λ ts. Yields.deep; fields = λ ts. Yields.deep }
+inside-sound ns (suc n) =
+    let below = inside-sound ns n in
+    let inner = inside ns n in
+    record { whole = whole-sound ns n inner below; unary = unary-sound ns n inner below; specifiers = specifiers-sound ns n inner below; fields = fields-sound ns n inner below }
+
+-- ---- what is read
+pub expressions : (ns : Names) (n : ℕ) (ts us : List Token) (a : Expr) → read.whole ns n (inside ns n) ts ≡ Got a us → Whole ns n ts a us
+expressions ns n ts us a h = yielded (whole-sound ns n (inside ns n) (inside-sound ns n) ts) h

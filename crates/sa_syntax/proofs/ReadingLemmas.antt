@@ -81,8 +81,10 @@ pub opens-yields : (n : ℕ) (m : Punct) (ts : List Token) → Yields (λ p us. 
 unfolding opens
 opens-yields n m ts = if_yields (sees m ts) (λ h. opens_any-yields n m ts h) (λ h. Yields.stuck)
 
-pub data AnyOpened (w : Word) : ℕ → List Token → Pos → List Token → Type 0 where
-  any_opened : {n : ℕ} {p : Pos} {us : List Token} → AnyOpened w (suc n) ((record { word = w; pos = p }) ∷ us) p us
+pub opens_front : (n : ℕ) (m : Punct) (p : Pos) (ts : List Token) → Yields (λ q us. Opened m n (mark m p ∷ ts) q us) (opens_any n (mark m p ∷ ts))
+unfolding opens_any
+opens_front zero m p ts = Yields.deep
+opens_front (suc n) m p ts = Yields.got Opened.opened
 
 -- ---- names
 pub data IsWord : List Token → Named → List Token → Type 0 where

@@ -1,5 +1,5 @@
-use Rattle.sa_syntax.proofs.ExprSound.{whole_sound}
+use Rattle.sa_syntax.proofs.ExprSound.{expressions}
 use Rattle.sa_syntax.proofs.laws.readings_are_expressions.Goals as goal
 
 pub returns : goal.returns
-returns c = ?
+returns c = expressions
