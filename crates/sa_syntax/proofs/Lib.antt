@@ -1,2 +1,4 @@
 pub mod ReadingLemmas
 pub mod ExprSound
+pub mod RoomLemmas
+pub mod ExprRoom

@@ -1,9 +1,15 @@
 //! Laws of the grammar and of its reader.
 
-ghost use Rattle.sa_syntax.specs.SoundLaws.{ReadingsAreExpressions};
+ghost use Rattle.sa_syntax.specs.SoundLaws.{MoreRoomReadsTheSame, ReadingsAreExpressions};
 
 /// What is read as an expression is one by the grammar.
 pub fn readings_are_expressions()
     ensures { ReadingsAreExpressions }
+{
+}
+
+/// Where more may be open, the same is read, unless less was too little.
+pub fn more_room_reads_the_same()
+    ensures { MoreRoomReadsTheSame }
 {
 }
