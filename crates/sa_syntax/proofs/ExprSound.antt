@@ -38,7 +38,7 @@ use Rattle.sa_syntax.specs.ReadExpr.{Inner, inside}
 use Rattle.sa_syntax.proofs.ReadingLemmas.{Yields, then_yields, map_yields, if_yields, yielded, Marked, expect-yields, Opened, opens-yields, opens_front, IsWord, any_name-yields, name_at-is, IsVariable, variable-yields, Keyed, key_at-is, mark_at-is, taken_yields, many_yields}
 
 -- where one more is open
-abbrev Within : {A : Type 0} → (ℕ → List Token → A → List Token → Type 0) → ℕ → List Token → A → List Token → Type 0
+abbrev pub Within : {A : Type 0} → (ℕ → List Token → A → List Token → Type 0) → ℕ → List Token → A → List Token → Type 0
 Within P zero ts a us = ⊥
 Within P (suc n) ts a us = P n ts a us
 
@@ -72,7 +72,7 @@ qualifier_from (Some kw) ts x e h = qualifier_at ts kw x (key_at-is ts kw e) (qu
 
 qualifiers-sound : (ts : List Token) → Yields (λ qs us. Qualifiers ts qs us) (many read.sees_qualifier read.qualifier ts)
 unfolding read.qualifier
-qualifiers-sound = many_yields (λ ts qs us. Qualifiers ts qs us) read.sees_qualifier read.qualifier (λ us. Qualifiers.no_qualifier)
+qualifiers-sound = many_yields (λ ts qs us. Qualifiers ts qs us) read.sees_qualifier read.qualifier (λ us h. Qualifiers.no_qualifier)
     (λ ts h. taken_yields (read.qualified_at (read.qualifier_in (key_at ts)) ts) ts (λ x e. qualifier_from (key_at ts) ts x refl e))
 
 scalar_from : (o : Option Keyword) (ts : List Token) (w : ScalarWord) → key_at ts ≡ o → read.scalar_in o ≡ Some w
@@ -89,7 +89,7 @@ unfolding read.scalar_word
 scalar_word-sound ts = taken_yields (read.scalar_in (key_at ts)) ts (λ w e. scalar_from (key_at ts) ts w refl e)
 
 scalar_words-sound : (ts : List Token) → Yields (λ ws us. ScalarWords ts ws us) (many read.sees_scalar read.scalar_word ts)
-scalar_words-sound = many_yields (λ ts ws us. ScalarWords ts ws us) read.sees_scalar read.scalar_word (λ us. ScalarWords.no_word) (λ ts h. scalar_word-sound ts)
+scalar_words-sound = many_yields (λ ts ws us. ScalarWords ts ws us) read.sees_scalar read.scalar_word (λ us h. ScalarWords.no_word) (λ ts h. scalar_word-sound ts)
 
 -- ---- operators
 data IsOperator (l : ℕ) : List Token → Operator → List Token → Type 0 where
@@ -142,7 +142,7 @@ module _ (ns : Names) (n : ℕ) (inner : Inner) (sound : IsSound ns n inner) whe
 
   pub steps-sound : (ts : List Token) → Yields (λ ss us. Steps ns n ts ss us) (read.steps ns n inner ts)
   unfolding read.steps
-  steps-sound = many_yields (λ ts ss us. Steps ns n ts ss us) read.sees_step (read.a_step ns n inner) (λ us. Steps.no_step) (λ ts h. a_step-sound ts)
+  steps-sound = many_yields (λ ts ss us. Steps ns n ts ss us) read.sees_step (read.a_step ns n inner) (λ us h. Steps.no_step) (λ ts h. a_step-sound ts)
 
   by_name_from : (ts : List Token) (x : Named) (us : List Token) (ss : List Step) (vs : List Token) → IsVariable ns ts x us → Steps ns n us ss vs → Place' ns n ts (tree.place (at.Name x) ss) vs
   by_name_from _ _ _ ss vs (IsVariable.is_variable v) more = Place'.name v more
@@ -195,7 +195,7 @@ module _ (ns : Names) (n : ℕ) (inner : Inner) (sound : IsSound ns n inner) whe
       Yields.got (bound_from n ts p us a vs q ws o w c))))
 
   bounds-sound : (ts : List Token) → Yields (λ bs us. Bounds ns n ts bs us) (many (sees m.OpenBracket) (read.a_bound ns n inner) ts)
-  bounds-sound = many_yields (λ ts bs us. Bounds ns n ts bs us) (sees m.OpenBracket) (read.a_bound ns n inner) (λ us. Bounds.no_bound) (λ ts h. a_bound-sound ts)
+  bounds-sound = many_yields (λ ts bs us. Bounds ns n ts bs us) (sees m.OpenBracket) (read.a_bound ns n inner) (λ us h. Bounds.no_bound) (λ ts h. a_bound-sound ts)
 
   declr_from : (ts : List Token) (x : Named) (us : List Token) (bs : List Bound) (vs : List Token) → IsWord ts x us → Bounds ns n us bs vs → Declr' ns n ts (tree.declr x bs) vs
   declr_from _ _ _ bs vs IsWord.is_word more = Declr'.declr more
@@ -216,7 +216,7 @@ module _ (ns : Names) (n : ℕ) (inner : Inner) (sound : IsSound ns n inner) whe
   next_declr-sound ts = then_yields (expect-yields m.Comma ts) (λ p us c. map_yields (λ x vs i. next_from ts p us x vs c i) (declr-sound us))
 
   more_declrs-sound : (ts : List Token) → Yields (λ ds us. MoreDeclrs ts ds us) (many (sees m.Comma) (read.next_declr ns n inner) ts)
-  more_declrs-sound = many_yields MoreDeclrs (sees m.Comma) (read.next_declr ns n inner) (λ us ss d first. Declrs.last_declr first) (λ ts h. next_declr-sound ts)
+  more_declrs-sound = many_yields MoreDeclrs (sees m.Comma) (read.next_declr ns n inner) (λ us h ss d first. Declrs.last_declr first) (λ ts h. next_declr-sound ts)
 
   pub declrs-sound : (ts : List Token) → Yields (λ ds us. SomeDeclrs ns n ts ds us) (read.declrs ns n inner ts)
   unfolding read.declrs
@@ -286,7 +286,7 @@ module _ (ns : Names) (n : ℕ) (inner : Inner) (sound : IsSound ns n inner) whe
   base_by-sound (Some w) ts e = scalars-sound ts
   base_by-sound None ts e = type_name-sound ts
 
-  base-sound : (ts : List Token) → Yields (λ t us. Base' ns n ts t us) (read.base ns n inner ts)
+  pub base-sound : (ts : List Token) → Yields (λ t us. Base' ns n ts t us) (read.base ns n inner ts)
   unfolding read.base
   base-sound ts = base_by-sound (key_at ts) ts refl
 
@@ -309,7 +309,7 @@ module _ (ns : Names) (n : ℕ) (inner : Inner) (sound : IsSound ns n inner) whe
   pub fields-sound : (ts : List Token) → Yields (λ fs us. SomeFields ns n ts fs us) (read.fields ns n inner ts)
   unfolding read.fields
   fields-sound ts = then_yields (field-sound ts) (λ f us more.
-      then_yields (many_yields (λ ts fs us. Fields ns n ts fs us) (read.no_brace ns n inner) (read.field ns n inner) (λ us. Fields.no_field) (λ ts h. field-sound ts) us) (λ fs vs i.
+      then_yields (many_yields (λ ts fs us. Fields ns n ts fs us) (read.no_brace ns n inner) (read.field ns n inner) (λ us h. Fields.no_field) (λ ts h. field-sound ts) us) (λ fs vs i.
       Yields.got (SomeFields.some_fields (more fs vs i))))
 
   -- ---- expressions
@@ -393,7 +393,7 @@ module _ (ns : Names) (n : ℕ) (inner : Inner) (sound : IsSound ns n inner) whe
   chain-sound : (l : ℕ) (operand : Parser Expr) → ((ts : List Token) → Yields (λ a us. Ranked ns n l ts a us) (operand ts)) → (ts : List Token) → Yields (λ a us. Ranked ns n (suc l) ts a us) (read.chain ns n inner l operand ts)
   unfolding read.chain
   chain-sound l operand one ts = then_yields (one ts) (λ a us i.
-      then_yields (many_yields (λ ts xs us. Links ns n l ts xs us) (read.sees_operator (suc l)) (read.a_link ns n inner operand) (λ us. Links.no_link) (a_link-sound l operand one) us) (λ xs vs more.
+      then_yields (many_yields (λ ts xs us. Links ns n l ts xs us) (read.sees_operator (suc l)) (read.a_link ns n inner operand) (λ us h. Links.no_link) (a_link-sound l operand one) us) (λ xs vs more.
       Yields.got (chained-is l ts a us xs vs i more)))
 
   pub ranked-sound : (l : ℕ) (ts : List Token) → Yields (λ a us. Ranked ns n l ts a us) (read.ranked ns n inner l ts)
@@ -426,6 +426,56 @@ inside-sound ns (suc n) =
     let inner = inside ns n in
     record { whole = whole-sound ns n inner below; unary = unary-sound ns n inner below; specifiers = specifiers-sound ns n inner below; fields = fields-sound ns n inner below }
 
+-- ---- the readers where that many more may be open
+pub whole-yields : (ns : Names) (n : ℕ) (ts : List Token) → Yields (λ a us. Whole ns n ts a us) (read.whole ns n (inside ns n) ts)
+whole-yields ns n = whole-sound ns n (inside ns n) (inside-sound ns n)
+
+pub ranked-yields : (ns : Names) (n l : ℕ) (ts : List Token) → Yields (λ a us. Ranked ns n l ts a us) (read.ranked ns n (inside ns n) l ts)
+ranked-yields ns n = ranked-sound ns n (inside ns n) (inside-sound ns n)
+
+pub unary-yields : (ns : Names) (n : ℕ) (ts : List Token) → Yields (λ a us. Unary ns n ts a us) (read.unary ns n (inside ns n) ts)
+unary-yields ns n = unary-sound ns n (inside ns n) (inside-sound ns n)
+
+pub place-yields : (ns : Names) (n : ℕ) (ts : List Token) → Yields (λ x us. Place' ns n ts x us) (read.place ns n (inside ns n) ts)
+place-yields ns n = place-sound ns n (inside ns n) (inside-sound ns n)
+
+pub specifiers-yields : (ns : Names) (n : ℕ) (ts : List Token) → Yields (λ t us. Specifiers' ns n ts t us) (read.specifiers ns n (inside ns n) ts)
+specifiers-yields ns n = specifiers-sound ns n (inside ns n) (inside-sound ns n)
+
+pub base-yields : (ns : Names) (n : ℕ) (ts : List Token) → Yields (λ t us. Base' ns n ts t us) (read.base ns n (inside ns n) ts)
+base-yields ns n = base-sound ns n (inside ns n) (inside-sound ns n)
+
+pub declr-yields : (ns : Names) (n : ℕ) (ts : List Token) → Yields (λ d us. Declr' ns n ts d us) (read.declr ns n (inside ns n) ts)
+declr-yields ns n = declr-sound ns n (inside ns n) (inside-sound ns n)
+
+pub declrs-yields : (ns : Names) (n : ℕ) (ts : List Token) → Yields (λ ds us. SomeDeclrs ns n ts ds us) (read.declrs ns n (inside ns n) ts)
+declrs-yields ns n = declrs-sound ns n (inside ns n) (inside-sound ns n)
+
+pub fields-yields : (ns : Names) (n : ℕ) (ts : List Token) → Yields (λ fs us. SomeFields ns n ts fs us) (read.fields ns n (inside ns n) ts)
+fields-yields ns n = fields-sound ns n (inside ns n) (inside-sound ns n)
+
+pub body-yields : (ns : Names) (n : ℕ) (ts : List Token) → Yields (λ x us. (s : Struct) × (x ≡ b.Struct s) × ((at : Pos) → Struct' ns n (key k.Struct at ∷ ts) s us)) (read.body ns n (inside ns n) None ts)
+body-yields ns n = body-sound ns n (inside ns n) (inside-sound ns n)
+
+pub tagged_body-yields : (ns : Names) (n : ℕ) (w : List ℕ) (by : Pos) (ts : List Token)
+    → Yields (λ x us. (s : Struct) × (x ≡ b.Struct s) × ((at : Pos) → Struct' ns n (key k.Struct at ∷ word w by ∷ ts) s us)) (read.body ns n (inside ns n) (Some (named w by)) ts)
+tagged_body-yields ns n = tagged_body-sound ns n (inside ns n) (inside-sound ns n)
+
 -- ---- what is read
 pub expressions : (ns : Names) (n : ℕ) (ts us : List Token) (a : Expr) → read.whole ns n (inside ns n) ts ≡ Got a us → Whole ns n ts a us
-expressions ns n ts us a h = yielded (whole-sound ns n (inside ns n) (inside-sound ns n) ts) h
+expressions ns n ts us a h = yielded (whole-yields ns n ts) h
+
+pub places : (ns : Names) (n : ℕ) (ts us : List Token) (x : Place) → read.place ns n (inside ns n) ts ≡ Got x us → Place' ns n ts x us
+places ns n ts us x h = yielded (place-yields ns n ts) h
+
+pub types : (ns : Names) (n : ℕ) (ts us : List Token) (t : Specifiers) → read.specifiers ns n (inside ns n) ts ≡ Got t us → Specifiers' ns n ts t us
+types ns n ts us t h = yielded (specifiers-yields ns n ts) h
+
+pub declarators : (ns : Names) (n : ℕ) (ts us : List Token) (d : Declr) → read.declr ns n (inside ns n) ts ≡ Got d us → Declr' ns n ts d us
+declarators ns n ts us d h = yielded (declr-yields ns n ts) h
+
+some_declrs-are : (ns : Names) (n : ℕ) (ts us : List Token) (ds : List Declr) → SomeDeclrs ns n ts ds us → Declrs ns n ts ds us
+some_declrs-are ns n ts us _ (SomeDeclrs.some_declrs i) = i
+
+pub declarator_lists : (ns : Names) (n : ℕ) (ts us : List Token) (ds : List Declr) → read.declrs ns n (inside ns n) ts ≡ Got ds us → Declrs ns n ts ds us
+declarator_lists ns n ts us ds h = some_declrs-are ns n ts us ds (yielded (declrs-yields ns n ts) h)

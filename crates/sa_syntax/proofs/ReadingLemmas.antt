@@ -11,6 +11,7 @@ use Rattle.sa_tokens.specs.declared.token.Token.{Token}
 use Rattle.sa_syntax.specs.declared.decl.Name.{Name as Named}
 use Rattle.sa_syntax.specs.Words.{Names, mark, key, word, literal, named, is_type_name}
 use Rattle.sa_syntax.specs.Reading.{Read, Got, Stuck, Deep, Parser, and_then, ◌>>=◌, same_mark, is_mark, sees, after, expect, opens_any, opens, name_by, name_at, taken, any_name, unless_type, variable, key_by, key_at, mark_by, mark_at, turns, while_from, many}
+use Rattle.sa_syntax.specs.ReadStmt.{takes}
 
 -- whatever is read has the property
 pub data Yields {A : Type 0} (P : A → List Token → Type 0) : Read A → Type 0 where
@@ -43,6 +44,11 @@ of_read (Deep vs) a us y e = cc
 
 pub yielded : {A : Type 0} {P : A → List Token → Type 0} {r : Read A} {a : A} {us : List Token} → Yields P r → r ≡ Got a us → P a us
 yielded {r = r} {a = a} {us = us} y e = of_read r a us y e
+
+-- the same for a test between readers
+pub if_reader_yields : {A : Type 0} {P : A → List Token → Type 0} (p q : Parser A) (b : Bool) (ts : List Token) → (b ≡ true → Yields P (p ts)) → (b ≡ false → Yields P (q ts)) → Yields P (cond b p q ts)
+if_reader_yields p q true ts go other = go refl
+if_reader_yields p q false ts go other = other refl
 
 -- ---- marks
 pub is_mark-same : (m : Punct) (w : Word) → is_mark m w ≡ true → w ≡ Mark m
@@ -155,18 +161,42 @@ unfolding mark_at
 mark_at-is [] m h = cc
 mark_at-is (t ∷ ts) m h = (t.pos, mark_by-is t.word t.pos ts m h)
 
+-- the token at the front is taken
+pub data KeyAt (k : Keyword) : List Token → Pos → List Token → Type 0 where
+  key_at_front : {p : Pos} {us : List Token} → KeyAt k (key k p ∷ us) p us
+
+pub data MarkAt (P : Punct → Type 0) : List Token → Pos → List Token → Type 0 where
+  mark_at_front : {m : Punct} {p : Pos} {us : List Token} → P m → MarkAt P (mark m p ∷ us) p us
+
+take_key : (k : Keyword) (ts : List Token) → Keyed k ts → Yields (λ p us. KeyAt k ts p us) (takes ts)
+take_key k _ Keyed.keyed = Yields.got KeyAt.key_at_front
+
+pub take_key_at : (ts : List Token) (k : Keyword) → key_at ts ≡ Some k → Yields (λ p us. KeyAt k ts p us) (takes ts)
+take_key_at ts k h = take_key k ts (key_at-is ts k h)
+
+take_mark : (P : Punct → Type 0) (m : Punct) (ts : List Token) (p : Pos) (us : List Token) → Marked m ts p us → P m → Yields (λ p us. MarkAt P ts p us) (takes ts)
+take_mark P m _ _ _ Marked.marked h = Yields.got (MarkAt.mark_at_front h)
+
+pub take_mark_at : (P : Punct → Type 0) (ts : List Token) (m : Punct) → mark_at ts ≡ Some m → P m → Yields (λ p us. MarkAt P ts p us) (takes ts)
+take_mark_at P ts m e h = let k = mark_at-is ts m e in take_mark P m ts k.0 (after ts) k.1 h
+
+pub sees-is : (m : Punct) (ts : List Token) → sees m ts ≡ true → (p : Pos) × Marked m ts p (after ts)
+unfolding sees
+sees-is m [] h = cc
+sees-is m (t ∷ ts) h = (t.pos, marked-is m t.word t.pos ts (is_mark-same m t.word h))
+
 -- ---- lists
 -- each item is in front of a list of them
-while_from_yields : {A : Type 0} (Star : List Token → List A → List Token → Type 0) (goes : List Token → Bool) (item : Parser A) → ((us : List Token) → Star us [] us)
+while_from_yields : {A : Type 0} (Star : List Token → List A → List Token → Type 0) (goes : List Token → Bool) (item : Parser A) → ((us : List Token) → goes us ≡ false → Star us [] us)
     → ((ts : List Token) → goes ts ≡ true → Yields (λ x us. (xs : List A) (vs : List Token) → Star us xs vs → Star ts (x ∷ xs) vs) (item ts))
     → (n : ℕ) (found : List A) (ts : List Token) → Yields (λ xs us. (ys : List A) × (xs ≡ found ++ ys) × Star ts ys us) (while_from goes item n found ts)
 unfolding while_from
 while_from_yields Star goes item none one zero found ts = Yields.stuck
 while_from_yields Star goes item none one (suc n) found ts = if_yields (goes ts)
     (λ h. then_yields (one ts h) (λ x us more. map_yields (λ xs vs p. (x ∷ p.0, p.1 ∙ append_assoc found (x ∷ []) p.0, more p.0 vs p.2)) (while_from_yields Star goes item none one n (found ++ x ∷ []) us)))
-    (λ h. Yields.got ([], sym (append-nil found), none ts))
+    (λ h. Yields.got ([], sym (append-nil found), none ts h))
 
-pub many_yields : {A : Type 0} (Star : List Token → List A → List Token → Type 0) (goes : List Token → Bool) (item : Parser A) → ((us : List Token) → Star us [] us)
+pub many_yields : {A : Type 0} (Star : List Token → List A → List Token → Type 0) (goes : List Token → Bool) (item : Parser A) → ((us : List Token) → goes us ≡ false → Star us [] us)
     → ((ts : List Token) → goes ts ≡ true → Yields (λ x us. (xs : List A) (vs : List Token) → Star us xs vs → Star ts (x ∷ xs) vs) (item ts))
     → (ts : List Token) → Yields (λ xs us. Star ts xs us) (many goes item ts)
 many_yields Star goes item none one ts =
