@@ -2,3 +2,4 @@ pub mod ReadingLemmas
 pub mod ExprSound
 pub mod RoomLemmas
 pub mod ExprRoom
+pub mod StmtSound

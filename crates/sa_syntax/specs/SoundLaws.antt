@@ -2,10 +2,13 @@
 use Rattle.std.specs.Prelude.{ℕ, ◌≡◌, ◌≤◌, ◌⊎◌, List}
 use Rattle.sa_tokens.specs.declared.token.Token.{Token}
 use Rattle.sa_syntax.specs.declared.expr.Expr.{Expr}
+use Rattle.sa_syntax.specs.declared.unit.Unit.{Unit as Source}
 use Rattle.sa_syntax.specs.Words.{Names}
 use Rattle.sa_syntax.specs.Expressions.{Whole}
+use Rattle.sa_syntax.specs.Statements.{Tree}
 use Rattle.sa_syntax.specs.Reading.{Read, Got, Deep}
 use Rattle.sa_syntax.specs.ReadExpr.{whole, inside}
+use Rattle.sa_syntax.specs.ReadStmt.{source}
 
 -- What is read as an expression is one by the grammar: its tokens, and then those that are left.
 abbrev pub ReadingsAreExpressions : Type 0
@@ -17,3 +20,7 @@ AgreeUnlessDeep r s = ((vs : List Token) × (r ≡ Deep vs)) ⊎ (r ≡ s)
 
 abbrev pub MoreRoomReadsTheSame : Type 0
 MoreRoomReadsTheSame = (ns : Names) (n more : ℕ) → n ≤ more → (ts : List Token) → AgreeUnlessDeep (whole ns n (inside ns n) ts) (whole ns more (inside ns more) ts)
+
+-- What is read as a source is one by the grammar: all its tokens.
+abbrev pub ReadingsAreSources : Type 0
+ReadingsAreSources = (n : ℕ) (ts us : List Token) (u : Source) → source n ts ≡ Got u us → Tree n ts u

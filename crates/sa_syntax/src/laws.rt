@@ -1,6 +1,6 @@
 //! Laws of the grammar and of its reader.
 
-ghost use Rattle.sa_syntax.specs.SoundLaws.{MoreRoomReadsTheSame, ReadingsAreExpressions};
+ghost use Rattle.sa_syntax.specs.SoundLaws.{MoreRoomReadsTheSame, ReadingsAreExpressions, ReadingsAreSources};
 
 /// What is read as an expression is one by the grammar.
 pub fn readings_are_expressions()
@@ -11,5 +11,11 @@ pub fn readings_are_expressions()
 /// Where more may be open, the same is read, unless less was too little.
 pub fn more_room_reads_the_same()
     ensures { MoreRoomReadsTheSame }
+{
+}
+
+/// What is read as a source is one by the grammar.
+pub fn readings_are_sources()
+    ensures { ReadingsAreSources }
 {
 }
