@@ -3,3 +3,4 @@ pub mod ExprSound
 pub mod RoomLemmas
 pub mod ExprRoom
 pub mod StmtSound
+pub mod UnitSound
