@@ -421,3 +421,57 @@ module _ (ns : Names) (n : ℕ) where
       then_yields (any_name-yields vs) (λ x ws w.
       then_yields (expect-yields m.Semicolon ws) (λ q xs e.
       Yields.got (typedef_from ts p us t vs x ws q xs f i w e)))))
+
+  base_struct : (ts us : List Token) (t : Base) (x : Struct) → Base' ns n ts t us → read.struct_in t ≡ Some x → Struct' ns n ts x us
+  base_struct ts us _ x (Base'.scalar {w = w} {ws = ws} i) h = cc (b.outs-Scalar (w ∷ ws))
+  base_struct _ us _ x Base'.void h = cc b.outs-Void
+  base_struct _ us _ x (Base'.tag {q = q} {w = w}) h = cc (b.outs-Tag (named w q))
+  base_struct ts us _ x (Base'.structure {s = y} i) h = let e : y ≡ x = cc (b.outs-Struct y) in subst (λ z. Struct' ns n ts z us) e i
+  base_struct _ us _ x (Base'.type_name {p = p} {w = w} g) h = cc (b.outs-Named (named w p))
+
+  bare_at : (ts us vs : List Token) (qs : List Qualified) (t : Base) (x : Struct) → Qualifiers ts qs us → Base' ns n us t vs → read.if_bare qs (read.struct_in t) ≡ Some x → Struct' ns n ts x vs
+  bare_at ts _ vs _ t x Qualifiers.no_qualifier j h = base_struct ts vs t x j h
+  bare_at _ us vs _ t x (Qualifiers.qualifier e more) j h = cc
+
+  bare_struct : (ts us : List Token) (t : Specifiers) (x : Struct) → Specifiers' ns n ts t us → read.struct_of t ≡ Some x → Struct' ns n ts x us
+  unfolding read.struct_of
+  bare_struct ts us _ x (Specifiers'.specifiers {us = ms} {qs = qs} {b = t} i j) h =
+      let e = out-roll-Specifiers (record { pos = tree.pos_of ts; qualifiers = qs; base = t }) in
+      bare_at ts ms us qs t x i j (subst (λ o. read.if_bare o.qualifiers (read.struct_in o.base) ≡ Some x) e h)
+
+  struct_from : (ts : List Token) (x : Struct) (us : List Token) (p : Pos) (vs : List Token) → Struct' ns n ts x us → Marked m.Semicolon us p vs → InFront ns n ts (top.Struct (tree.pos_of ts) x) vs
+  struct_from ts x _ p vs i Marked.marked is more = Units.structure i more
+
+  struct_or-sound : (ts : List Token) (t : Specifiers) (us : List Token) (o : Option Struct) → Specifiers' ns n ts t us → read.struct_of t ≡ o → Yields (λ x vs. InFront ns n ts x vs) (read.struct_or ns n (tree.pos_of ts) t o us)
+  struct_or-sound ts t us None i e = named_item-sound ts t us i
+  struct_or-sound ts t us (Some x) i e = if_yields (sees m.Semicolon us)
+      (λ h. let c = sees-is m.Semicolon us h in Yields.got (struct_from ts x us c.0 (after us) (bare_struct ts us t x i e) c.1))
+      (λ h. named_item-sound ts t us i)
+
+  declared-sound : (ts : List Token) → Yields (λ x us. InFront ns n ts x us) (read.declared ns n ts)
+  unfolding read.declared
+  declared-sound ts = then_yields (specifiers-yields ns n ts) (λ t us i. struct_or-sound ts t us (read.struct_of t) i refl)
+
+  item_by-sound : (o : Option Keyword) (ts : List Token) → key_at ts ≡ o → Yields (λ x us. InFront ns n ts x us) (read.item_by ns n o ts)
+  item_by-sound (Some k.Typedef) ts h = typedef-sound ts h
+  item_by-sound o ts h = declared-sound ts
+
+  an_item-sound : (ts : List Token) → Yields (λ x us. InFront ns n ts x us) (read.an_item ns n ts)
+  unfolding read.an_item
+  an_item-sound ts = item_by-sound (key_at ts) ts refl
+
+items_from-sound : (n left : ℕ) (ns : Names) (found : List Item) (ts : List Token) → Yields (λ is us. Behind found (λ js. Units ns n ts js) is) (read.items_from n left ns found ts)
+unfolding read.items_from
+items_from-sound n zero ns found ts = Yields.stuck
+items_from-sound n (suc left) ns found [] = Yields.got ([], sym (append-nil found), Units.end)
+items_from-sound n (suc left) ns found (t ∷ ts) =
+    then_yields (an_item-sound ns n (t ∷ ts)) (λ x us i.
+    map_yields (λ is vs r. (x ∷ r.0, r.1 ∙ append_assoc found (x ∷ []) r.0, i r.0 r.2)) (items_from-sound n left (read.names_after ns x) (found ++ x ∷ []) us))
+
+source-yields : (n : ℕ) (ts : List Token) → Yields (λ u us. Tree n ts u) (read.source n ts)
+unfolding read.source
+source-yields n ts = then_yields (items_from-sound n (turns ts) [] [] ts) (λ is us r. Yields.got (subst (λ (js : List Item). Units [] n ts js) (sym r.1) r.2))
+
+-- ---- what is read
+pub sources : (n : ℕ) (ts us : List Token) (u : Source) → read.source n ts ≡ Got u us → Tree n ts u
+sources n ts us u h = yielded (source-yields n ts) h

@@ -1,5 +1,5 @@
-use Rattle.sa_syntax.proofs.UnitSound.{outermost-yields}
+use Rattle.sa_syntax.proofs.UnitSound.{sources}
 use Rattle.sa_syntax.proofs.laws.readings_are_sources.Goals as goal
 
 pub returns : goal.returns
-returns c = ?
+returns c = sources
