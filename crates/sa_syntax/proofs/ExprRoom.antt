@@ -212,3 +212,22 @@ inside-room ns (suc n) (suc more) h =
 -- ---- what is read
 pub expressions_agree : (ns : Names) (n more : ℕ) → n ≤ more → (ts : List Token) → ((vs : List Token) × (read.whole ns n (inside ns n) ts ≡ Deep vs)) ⊎ (read.whole ns n (inside ns n) ts ≡ read.whole ns more (inside ns more) ts)
 expressions_agree ns n more h ts = agree (whole-room ns n more (inside ns n) (inside ns more) h (inside-room ns n more h) ts)
+
+-- ---- the readers where that many more may be open
+pub whole_less : (ns : Names) (n more : ℕ) → n ≤ more → (ts : List Token) → Less (read.whole ns n (inside ns n) ts) (read.whole ns more (inside ns more) ts)
+whole_less ns n more h = whole-room ns n more (inside ns n) (inside ns more) h (inside-room ns n more h)
+
+pub place_less : (ns : Names) (n more : ℕ) → n ≤ more → (ts : List Token) → Less (read.place ns n (inside ns n) ts) (read.place ns more (inside ns more) ts)
+place_less ns n more h = place-room ns n more (inside ns n) (inside ns more) h (inside-room ns n more h)
+
+pub specifiers_less : (ns : Names) (n more : ℕ) → n ≤ more → (ts : List Token) → Less (read.specifiers ns n (inside ns n) ts) (read.specifiers ns more (inside ns more) ts)
+specifiers_less ns n more h = specifiers-room ns n more (inside ns n) (inside ns more) h (inside-room ns n more h)
+
+pub declr_less : (ns : Names) (n more : ℕ) → n ≤ more → (ts : List Token) → Less (read.declr ns n (inside ns n) ts) (read.declr ns more (inside ns more) ts)
+declr_less ns n more h = declr-room ns n more (inside ns n) (inside ns more) h (inside-room ns n more h)
+
+pub declrs_less : (ns : Names) (n more : ℕ) → n ≤ more → (ts : List Token) → Less (read.declrs ns n (inside ns n) ts) (read.declrs ns more (inside ns more) ts)
+declrs_less ns n more h = declrs-room ns n more (inside ns n) (inside ns more) h (inside-room ns n more h)
+
+pub body_less : (ns : Names) (n more : ℕ) → n ≤ more → (tag : Option Named) (ts : List Token) → Less (read.body ns n (inside ns n) tag ts) (read.body ns more (inside ns more) tag ts)
+body_less ns n more h = body-room ns n more (inside ns n) (inside ns more) h (inside-room ns n more h)

@@ -4,3 +4,4 @@ pub mod RoomLemmas
 pub mod ExprRoom
 pub mod StmtSound
 pub mod UnitSound
+pub mod StmtRoom

@@ -24,3 +24,6 @@ MoreRoomReadsTheSame = (ns : Names) (n more : ℕ) → n ≤ more → (ts : List
 -- What is read as a source is one by the grammar: all its tokens.
 abbrev pub ReadingsAreSources : Type 0
 ReadingsAreSources = (n : ℕ) (ts us : List Token) (u : Source) → source n ts ≡ Got u us → Tree n ts u
+
+abbrev pub MoreRoomReadsTheSameSource : Type 0
+MoreRoomReadsTheSameSource = (n more : ℕ) → n ≤ more → (ts : List Token) → AgreeUnlessDeep (source n ts) (source more ts)
