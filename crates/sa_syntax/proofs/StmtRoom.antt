@@ -1,6 +1,7 @@
 -- Statements, functions and sources are read the same where more may be open, unless less was too little.
 use Rattle.std.proofs.Common.{◌≡◌, ℕ, zero, suc, ◌-◌, ◌≤◌, List, [], ◌∷◌, ◌++◌, Bool, true, false, cond, refl, sym, ap, ◌∙◌, subst, arith, ◌⊎◌, Option, Some, None}
 use Rattle.std.specs.Prelude.{◌&&◌, ◌||◌}
+use Rattle.std.proofs.lemmas.Bool.{or_parts}
 use Rattle.sa_base.specs.declared.pos.Pos.{Pos}
 use Rattle.sa_tokens.specs.declared.keyword.Keyword.{Keyword}
 use Rattle.sa_tokens.specs.declared.keyword.Keyword.TheVariants as k
@@ -14,6 +15,7 @@ use Rattle.sa_syntax.specs.declared.decl.Declr.{Declr}
 use Rattle.sa_syntax.specs.declared.decl.Init.{Init}
 use Rattle.sa_syntax.specs.declared.expr.Expr.{Expr}
 use Rattle.sa_syntax.specs.declared.expr.Place.{Place}
+use Rattle.sa_syntax.specs.declared.expr.PlaceBase.TheVariants as at
 use Rattle.sa_syntax.specs.declared.stmt.Compound.{Compound}
 use Rattle.sa_syntax.specs.declared.stmt.Turn.{Turn}
 use Rattle.sa_syntax.specs.declared.stmt.Simple.{Simple}
@@ -197,10 +199,10 @@ module _ (ns : Names) (n more : ℕ) (room : n ≤ more) where
   a_label-room ts = label_by-room (key_at ts) ts
 
 -- ---- statements: the readers one deeper have more room
-record IsRoomier (bodies wide : Bodies) : Type 0 where
-  stmt : (ts : List Token) → Less (bodies.stmt ts) (wide.stmt ts)
-  items : (ts : List Token) → Less (bodies.items ts) (wide.items ts)
-  groups : (ts : List Token) → Less (bodies.groups ts) (wide.groups ts)
+pub record IsRoomier (bodies wide : Bodies) : Type 0 where
+  pub stmt : (ts : List Token) → Less (bodies.stmt ts) (wide.stmt ts)
+  pub items : (ts : List Token) → Less (bodies.items ts) (wide.items ts)
+  pub groups : (ts : List Token) → Less (bodies.groups ts) (wide.groups ts)
 
 module _ (ns : Names) (n more : ℕ) (bodies wide : Bodies) (room : n ≤ more) (deeper : IsRoomier bodies wide) where
   block-room : (ts : List Token) → Less (read.block ns n bodies ts) (read.block ns more wide ts)
@@ -336,3 +338,158 @@ module _ (ns : Names) (n more : ℕ) (bodies wide : Bodies) (room : n ≤ more) 
   groups-room : (ts : List Token) → Less (read.groups ns n bodies ts) (read.groups ns more wide ts)
   unfolding read.groups
   groups-room = less_many begins_with_label (read.a_group ns n bodies) (read.a_group ns more wide) a_group-room
+
+-- ---- where no statement begins, none is read
+not_some : {A : Type 0} (o : Option A) → is_some o ≡ false → o ≡ None
+not_some None h = refl
+not_some (Some x) h = cc
+
+module _ (ns : Names) (n : ℕ) (bodies : Bodies) (ts : List Token) (unnamed : unless_type ns (name_at ts) ≡ None) where
+  no_variable : variable ns ts ≡ Stuck ts
+  unfolding variable
+  no_variable = ap (λ o. taken o ts) unnamed
+
+  no_by_name : expr.by_name ns n (inside ns n) ts ≡ Stuck ts
+  unfolding expr.by_name
+  no_by_name = ap (λ r. and_then r (λ x us. and_then (expr.steps ns n (inside ns n) us) (λ ss vs. Got (tree.place (at.Name x) ss) vs))) no_variable
+
+  no_place_by : (o : Option Punct) → read.test_in read.mark_begins o ≡ false → expr.place_by ns n (inside ns n) o ts ≡ Stuck ts
+  no_place_by (Some m.OpenParen) h = cc
+  no_place_by (Some m.Star) h = cc
+  no_place_by o h = no_by_name
+
+  no_place : read.test_in read.mark_begins (mark_at ts) ≡ false → expr.place ns n (inside ns n) ts ≡ Stuck ts
+  unfolding expr.place
+  no_place h = no_place_by (mark_at ts) h
+
+  no_call : read.sees_call ns ts ≡ false
+  unfolding read.sees_call
+  no_call = ap (λ o. read.is_some_and o (sees m.OpenParen (after ts))) unnamed
+
+  no_placed : read.test_in read.mark_begins (mark_at ts) ≡ false → read.placed ns n bodies ts ≡ Stuck ts
+  unfolding read.placed
+  no_placed h =
+      ap (λ b. cond b (read.call_stmt ns n bodies ts) (and_then (expr.place ns n (inside ns n) ts) (read.assigned_stmt ns n bodies (begins_with_star ts)))) no_call
+      ∙ ap (λ r. and_then r (read.assigned_stmt ns n bodies (begins_with_star ts))) (no_place h)
+
+  no_mark_stmt : (o : Option Punct) → read.test_in read.mark_begins o ≡ false → read.placed ns n bodies ts ≡ Stuck ts → read.mark_stmt ns n bodies o ts ≡ Stuck ts
+  no_mark_stmt (Some m.OpenBrace) h e = cc
+  no_mark_stmt (Some m.Semicolon) h e = cc
+  no_mark_stmt (Some m.PlusPlus) h e = cc
+  no_mark_stmt (Some m.MinusMinus) h e = cc
+  no_mark_stmt o h e = e
+
+  no_stmt_by : (o : Option Keyword) → read.test_in read.key_begins o ≡ false → read.mark_stmt ns n bodies (mark_at ts) ts ≡ Stuck ts → read.stmt_by ns n bodies o ts ≡ Stuck ts
+  no_stmt_by None h e = e
+  no_stmt_by (Some k.If) h e = cc
+  no_stmt_by (Some k.While) h e = cc
+  no_stmt_by (Some k.Do) h e = cc
+  no_stmt_by (Some k.For) h e = cc
+  no_stmt_by (Some k.Switch) h e = cc
+  no_stmt_by (Some k.Break) h e = cc
+  no_stmt_by (Some k.Return) h e = cc
+  no_stmt_by (Some k.WaitForClock) h e = cc
+  no_stmt_by (Some k.Partition) h e = cc
+  no_stmt_by (Some k.KnownFact) h e = cc
+  no_stmt_by (Some k.Assert) h e = cc
+  no_stmt_by (Some w) h e = refl
+
+none_read : (ns : Names) (n : ℕ) (bodies : Bodies) (ts : List Token) → read.begins_stmt ns ts ≡ false → read.stmt ns n bodies ts ≡ Stuck ts
+unfolding read.stmt read.begins_stmt
+none_read ns n bodies ts h =
+    let all = or_parts (read.test_in read.key_begins (key_at ts) || read.test_in read.mark_begins (mark_at ts)) (is_some (unless_type ns (name_at ts))) h in
+    let words = or_parts (read.test_in read.key_begins (key_at ts)) (read.test_in read.mark_begins (mark_at ts)) all.0 in
+    let unnamed = not_some (unless_type ns (name_at ts)) all.1 in
+    no_stmt_by ns n bodies ts unnamed (key_at ts) words.0 (no_mark_stmt ns n bodies ts unnamed (mark_at ts) words.1 (no_placed ns n bodies ts unnamed words.1))
+
+none_first : (ns : Names) (n : ℕ) (bodies : Bodies) (ts : List Token) (b : Bool) → read.begins_stmt ns ts ≡ b → Less (cond b (Deep ts) (Stuck ts)) (read.stmt ns n bodies ts)
+none_first ns n bodies ts true h = Less.out
+none_first ns n bodies ts false h = subst (λ r. Less (Stuck ts) r) (sym (none_read ns n bodies ts h)) Less.same
+
+bodies-room : (ns : Names) (n more : ℕ) → n ≤ more → IsRoomier (read.bodies ns n) (read.bodies ns more)
+unfolding read.bodies
+bodies-room ns zero zero h = record { stmt = λ ts. Less.same; items = λ ts. Less.same; groups = λ ts. Less.same }
+bodies-room ns zero (suc more) h = record { stmt = λ ts. none_first ns more (read.bodies ns more) ts (read.begins_stmt ns ts) refl; items = λ ts. Less.out; groups = λ ts. Less.out }
+bodies-room ns (suc n) zero h = absurd (omega arith)
+bodies-room ns (suc n) (suc more) h =
+    let room : n ≤ more = omega arith in
+    let deeper = bodies-room ns n more room in
+    let one = read.bodies ns n in
+    let wide = read.bodies ns more in
+    record {
+      stmt = stmt-room ns n more one wide room deeper;
+      items = block_items-room ns n more one wide room deeper one.stmt wide.stmt deeper.stmt;
+      groups = groups-room ns n more one wide room deeper;
+    }
+
+pub stmt_less : (ns : Names) (n more : ℕ) → n ≤ more → (ts : List Token) → Less (read.stmt_at ns n ts) (read.stmt_at ns more ts)
+stmt_less ns n more h = stmt-room ns n more (read.bodies ns n) (read.bodies ns more) h (bodies-room ns n more h)
+
+outermost_less : (ns : Names) (n more : ℕ) → n ≤ more → (ts : List Token) → Less (read.outermost ns n ts) (read.outermost ns more ts)
+unfolding read.outermost
+outermost_less ns n more h = block_items-room ns n more (read.bodies ns n) (read.bodies ns more) h (bodies-room ns n more h) (read.stmt_at ns n) (read.stmt_at ns more) (stmt_less ns n more h)
+
+-- ---- functions
+param-room : (ns : Names) (n more : ℕ) → n ≤ more → (ts : List Token) → Less (read.param ns n ts) (read.param ns more ts)
+unfolding read.param
+param-room ns n more room ts = less_then (specifiers_less ns n more room ts) (λ t us. Less.same)
+
+params-room : (ns : Names) (n more : ℕ) → n ≤ more → (ts : List Token) → Less (read.params ns n ts) (read.params ns more ts)
+unfolding read.params
+params-room ns n more room ts = less_if (sees m.CloseParen ts) Less.same
+    (less_if (is_void_alone ts) Less.same (less_then (less_list m.CloseParen (read.param ns n) (read.param ns more) (param-room ns n more room) ts) (λ ps us. Less.same)))
+
+module _ (ns : Names) (n more : ℕ) (room : n ≤ more) where
+  function-room : (t : Specifiers) (ts : List Token) → Less (read.function ns n t ts) (read.function ns more t ts)
+  unfolding read.function read.ends read.body
+  function-room t t1 =
+      less_then (Less.same {r = any_name t1}) (λ x t2.
+      less_then (less_opens n more room m.OpenParen t2) (λ p t3.
+      less_then (less_within (read.params ns) (params-room ns) n more room t3) (λ ps t4.
+      less_if (sees m.Semicolon t4) Less.same
+          (less_if (all_named ps)
+              (less_then (less_opens n more room m.OpenBrace t4) (λ r t5.
+              less_then (less_within (read.outermost ns) (outermost_less ns) n more room t5) (λ bs t6. Less.same)))
+              Less.same))))
+
+  global-room : (t : Specifiers) (ts : List Token) → Less (read.global ns n t ts) (read.global ns more t ts)
+  unfolding read.global
+  global-room t ts = less_then (less_list m.Semicolon (read.init_declr ns n) (read.init_declr ns more) (init_declr-room ns n more room) ts) (λ xs us. Less.same)
+
+  named_item-room : (t : Specifiers) (ts : List Token) → Less (read.named_item ns n t ts) (read.named_item ns more t ts)
+  unfolding read.named_item
+  named_item-room t ts = less_if (read.sees_function ts) (function-room t ts) (global-room t ts)
+
+  typedef-room : (ts : List Token) → Less (read.typedef ns n ts) (read.typedef ns more ts)
+  unfolding read.typedef
+  typedef-room ts = less_then (Less.same {r = takes ts}) (λ p us. less_then (specifiers_less ns n more room us) (λ t vs. Less.same))
+
+  struct_or-room : (p : Pos) (t : Specifiers) (o : Option Struct) (ts : List Token) → Less (read.struct_or ns n p t o ts) (read.struct_or ns more p t o ts)
+  struct_or-room p t None ts = named_item-room t ts
+  struct_or-room p t (Some x) ts = less_if (sees m.Semicolon ts) Less.same (named_item-room t ts)
+
+  declared-room : (ts : List Token) → Less (read.declared ns n ts) (read.declared ns more ts)
+  unfolding read.declared
+  declared-room ts = less_then (specifiers_less ns n more room ts) (λ t us. struct_or-room (tree.pos_of ts) t (read.struct_of t) us)
+
+  item_by-room : (o : Option Keyword) (ts : List Token) → Less (read.item_by ns n o ts) (read.item_by ns more o ts)
+  item_by-room (Some k.Typedef) ts = typedef-room ts
+  item_by-room o ts = declared-room ts
+
+  an_item-room : (ts : List Token) → Less (read.an_item ns n ts) (read.an_item ns more ts)
+  unfolding read.an_item
+  an_item-room ts = item_by-room (key_at ts) ts
+
+-- ---- sources
+items_from-room : (n more : ℕ) → n ≤ more → (left : ℕ) (ns : Names) (found : List Item) (ts : List Token) → Less (read.items_from n left ns found ts) (read.items_from more left ns found ts)
+unfolding read.items_from
+items_from-room n more room zero ns found ts = Less.same
+items_from-room n more room (suc left) ns found [] = Less.same
+items_from-room n more room (suc left) ns found (t ∷ ts) = less_then (an_item-room ns n more room (t ∷ ts)) (λ x us. items_from-room n more room left (read.names_after ns x) (found ++ x ∷ []) us)
+
+source-room : (n more : ℕ) → n ≤ more → (ts : List Token) → Less (read.source n ts) (read.source more ts)
+unfolding read.source
+source-room n more room ts = less_then (items_from-room n more room (turns ts) [] [] ts) (λ is us. Less.same)
+
+pub sources_agree : (n more : ℕ) → n ≤ more → (ts : List Token) → ((vs : List Token) × (read.source n ts ≡ Deep vs)) ⊎ (read.source n ts ≡ read.source more ts)
+sources_agree n more room ts = agree (source-room n more room ts)

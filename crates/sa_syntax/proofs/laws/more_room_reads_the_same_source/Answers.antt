@@ -1,5 +1,5 @@
-use Rattle.sa_syntax.proofs.StmtRoom.{init_at-room}
+use Rattle.sa_syntax.proofs.StmtRoom.{sources_agree}
 use Rattle.sa_syntax.proofs.laws.more_room_reads_the_same_source.Goals as goal
 
 pub returns : goal.returns
-returns c = ?
+returns c = sources_agree
