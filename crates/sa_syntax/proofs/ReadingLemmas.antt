@@ -9,8 +9,8 @@ use Rattle.sa_tokens.specs.declared.token.Word.{Word}
 use Rattle.sa_tokens.specs.declared.token.Word.TheVariants.{Name, Number, Key, Mark}
 use Rattle.sa_tokens.specs.declared.token.Token.{Token}
 use Rattle.sa_syntax.specs.declared.decl.Name.{Name as Named}
-use Rattle.sa_syntax.specs.Words.{Names, mark, key, word, literal, named, is_type_name}
-use Rattle.sa_syntax.specs.Reading.{Read, Got, Stuck, Deep, Parser, and_then, ◌>>=◌, same_mark, is_mark, sees, after, expect, opens_any, opens, name_by, name_at, taken, any_name, unless_type, variable, key_by, key_at, mark_by, mark_at, turns, while_from, many}
+use Rattle.sa_syntax.specs.Words.{Names, mark, key, word, named, is_type_name}
+use Rattle.sa_syntax.specs.Reading.{Read, Got, Stuck, Deep, Parser, and_then, same_mark, is_mark, sees, after, expect, opens_any, opens, name_by, name_at, taken, any_name, unless_type, variable, key_by, key_at, mark_by, mark_at, turns, while_from, many}
 use Rattle.sa_syntax.specs.ReadStmt.{takes}
 
 -- whatever is read has the property
@@ -51,41 +51,41 @@ if_reader_yields p q true ts go other = go refl
 if_reader_yields p q false ts go other = other refl
 
 -- ---- marks
-pub is_mark-same : (m : Punct) (w : Word) → is_mark m w ≡ true → w ≡ Mark m
+pub is_mark_same : (m : Punct) (w : Word) → is_mark m w ≡ true → w ≡ Mark m
 unfolding same_mark
-is_mark-same m (Mark k) h = ap Mark (sym (same_true the_type tt m k h))
-is_mark-same m (Name w) h = cc
-is_mark-same m (Number v u l d) h = cc
-is_mark-same m (Key k) h = cc
+is_mark_same m (Mark k) h = ap Mark (sym (same_true the_type tt m k h))
+is_mark_same m (Name w) h = cc
+is_mark_same m (Number v u l d) h = cc
+is_mark_same m (Key k) h = cc
 
 -- tokens that begin with this mark, and the tokens after it
 pub data Marked (m : Punct) : List Token → Pos → List Token → Type 0 where
   marked : {p : Pos} {us : List Token} → Marked m (mark m p ∷ us) p us
 
-marked-is : (m : Punct) (w : Word) (p : Pos) (us : List Token) → w ≡ Mark m → Marked m ((record { word = w; pos = p }) ∷ us) p us
-marked-is m w p us e = subst (λ (v : Word). Marked m ((record { word = v; pos = p }) ∷ us) p us) (sym e) Marked.marked
+marked_is : (m : Punct) (w : Word) (p : Pos) (us : List Token) → w ≡ Mark m → Marked m ((record { word = w; pos = p }) ∷ us) p us
+marked_is m w p us e = subst (λ (v : Word). Marked m ((record { word = v; pos = p }) ∷ us) p us) (sym e) Marked.marked
 
-pub expect-yields : (m : Punct) (ts : List Token) → Yields (λ p us. Marked m ts p us) (expect m ts)
+pub expect_yields : (m : Punct) (ts : List Token) → Yields (λ p us. Marked m ts p us) (expect m ts)
 unfolding expect
-expect-yields m [] = Yields.stuck
-expect-yields m (t ∷ ts) = if_yields (is_mark m t.word) (λ h. Yields.got (marked-is m t.word t.pos ts (is_mark-same m t.word h))) (λ h. Yields.stuck)
+expect_yields m [] = Yields.stuck
+expect_yields m (t ∷ ts) = if_yields (is_mark m t.word) (λ h. Yields.got (marked_is m t.word t.pos ts (is_mark_same m t.word h))) (λ h. Yields.stuck)
 
 -- the same where one more may be open
 pub data Opened (m : Punct) : ℕ → List Token → Pos → List Token → Type 0 where
   opened : {n : ℕ} {p : Pos} {us : List Token} → Opened m (suc n) (mark m p ∷ us) p us
 
-opened-is : (m : Punct) (n : ℕ) (w : Word) (p : Pos) (us : List Token) → w ≡ Mark m → Opened m (suc n) ((record { word = w; pos = p }) ∷ us) p us
-opened-is m n w p us e = subst (λ (v : Word). Opened m (suc n) ((record { word = v; pos = p }) ∷ us) p us) (sym e) Opened.opened
+opened_is : (m : Punct) (n : ℕ) (w : Word) (p : Pos) (us : List Token) → w ≡ Mark m → Opened m (suc n) ((record { word = w; pos = p }) ∷ us) p us
+opened_is m n w p us e = subst (λ (v : Word). Opened m (suc n) ((record { word = v; pos = p }) ∷ us) p us) (sym e) Opened.opened
 
-opens_any-yields : (n : ℕ) (m : Punct) (ts : List Token) → sees m ts ≡ true → Yields (λ p us. Opened m n ts p us) (opens_any n ts)
+opens_any_yields : (n : ℕ) (m : Punct) (ts : List Token) → sees m ts ≡ true → Yields (λ p us. Opened m n ts p us) (opens_any n ts)
 unfolding opens_any sees
-opens_any-yields n m [] h = cc
-opens_any-yields zero m (t ∷ ts) h = Yields.deep
-opens_any-yields (suc n) m (t ∷ ts) h = Yields.got (opened-is m n t.word t.pos ts (is_mark-same m t.word h))
+opens_any_yields n m [] h = cc
+opens_any_yields zero m (t ∷ ts) h = Yields.deep
+opens_any_yields (suc n) m (t ∷ ts) h = Yields.got (opened_is m n t.word t.pos ts (is_mark_same m t.word h))
 
-pub opens-yields : (n : ℕ) (m : Punct) (ts : List Token) → Yields (λ p us. Opened m n ts p us) (opens n m ts)
+pub opens_yields : (n : ℕ) (m : Punct) (ts : List Token) → Yields (λ p us. Opened m n ts p us) (opens n m ts)
 unfolding opens
-opens-yields n m ts = if_yields (sees m ts) (λ h. opens_any-yields n m ts h) (λ h. Yields.stuck)
+opens_yields n m ts = if_yields (sees m ts) (λ h. opens_any_yields n m ts h) (λ h. Yields.stuck)
 
 pub opens_front : (n : ℕ) (m : Punct) (p : Pos) (ts : List Token) → Yields (λ q us. Opened m n (mark m p ∷ ts) q us) (opens_any n (mark m p ∷ ts))
 unfolding opens_any
@@ -100,20 +100,20 @@ pub taken_yields : {A : Type 0} {P : A → List Token → Type 0} (o : Option A)
 taken_yields None ts go = Yields.stuck
 taken_yields (Some a) ts go = Yields.got (go a refl)
 
-name_by-is : (w : Word) (p : Pos) (us : List Token) (x : Named) → name_by w p ≡ Some x → IsWord ((record { word = w; pos = p }) ∷ us) x us
-name_by-is (Name w) p us x h = let e : named w p ≡ x = cc in subst (λ (y : Named). IsWord (word w p ∷ us) y us) e IsWord.is_word
-name_by-is (Number v u l d) p us x h = cc
-name_by-is (Key k) p us x h = cc
-name_by-is (Mark m) p us x h = cc
+name_by_is : (w : Word) (p : Pos) (us : List Token) (x : Named) → name_by w p ≡ Some x → IsWord ((record { word = w; pos = p }) ∷ us) x us
+name_by_is (Name w) p us x h = let e : named w p ≡ x = cc in subst (λ (y : Named). IsWord (word w p ∷ us) y us) e IsWord.is_word
+name_by_is (Number v u l d) p us x h = cc
+name_by_is (Key k) p us x h = cc
+name_by_is (Mark m) p us x h = cc
 
-pub name_at-is : (ts : List Token) (x : Named) → name_at ts ≡ Some x → IsWord ts x (after ts)
+pub name_at_is : (ts : List Token) (x : Named) → name_at ts ≡ Some x → IsWord ts x (after ts)
 unfolding name_at
-name_at-is [] x h = cc
-name_at-is (t ∷ ts) x h = name_by-is t.word t.pos ts x h
+name_at_is [] x h = cc
+name_at_is (t ∷ ts) x h = name_by_is t.word t.pos ts x h
 
-pub any_name-yields : (ts : List Token) → Yields (λ x us. IsWord ts x us) (any_name ts)
+pub any_name_yields : (ts : List Token) → Yields (λ x us. IsWord ts x us) (any_name ts)
 unfolding any_name
-any_name-yields ts = taken_yields (name_at ts) ts (name_at-is ts)
+any_name_yields ts = taken_yields (name_at ts) ts (name_at_is ts)
 
 -- a name that is no type name
 pub data IsVariable (ns : Names) : List Token → Named → List Token → Type 0 where
@@ -122,44 +122,44 @@ pub data IsVariable (ns : Names) : List Token → Named → List Token → Type 
 variable_from : (ns : Names) (ts : List Token) (x : Named) (us : List Token) → IsWord ts x us → is_type_name ns x.text ≡ false → IsVariable ns ts x us
 variable_from ns _ _ _ (IsWord.is_word) h = IsVariable.is_variable h
 
-unless_type-is : (ns : Names) (o : Option Named) (x : Named) → unless_type ns o ≡ Some x → (o ≡ Some x) × (is_type_name ns x.text ≡ false)
-unless_type-is ns None x h = cc
-unless_type-is ns (Some y) x h = unless_case ns y x (is_type_name ns y.text) refl h
+unless_type_is : (ns : Names) (o : Option Named) (x : Named) → unless_type ns o ≡ Some x → (o ≡ Some x) × (is_type_name ns x.text ≡ false)
+unless_type_is ns None x h = cc
+unless_type_is ns (Some y) x h = unless_case ns y x (is_type_name ns y.text) refl h
   where
     unless_case : (ns : Names) (y x : Named) (b : Bool) → is_type_name ns y.text ≡ b → cond b None (Some y) ≡ Some x → (Some y ≡ Some x) × (is_type_name ns x.text ≡ false)
     unless_case ns y x true e h = cc
     unless_case ns y x false e h = let same : y ≡ x = cc in (h, subst (λ (z : Named). is_type_name ns z.text ≡ false) same e)
 
-pub variable-yields : (ns : Names) (ts : List Token) → Yields (λ x us. IsVariable ns ts x us) (variable ns ts)
+pub variable_yields : (ns : Names) (ts : List Token) → Yields (λ x us. IsVariable ns ts x us) (variable ns ts)
 unfolding variable
-variable-yields ns ts = taken_yields (unless_type ns (name_at ts)) ts (λ x h. let k = unless_type-is ns (name_at ts) x h in variable_from ns ts x (after ts) (name_at-is ts x k.0) k.1)
+variable_yields ns ts = taken_yields (unless_type ns (name_at ts)) ts (λ x h. let k = unless_type_is ns (name_at ts) x h in variable_from ns ts x (after ts) (name_at_is ts x k.0) k.1)
 
 -- ---- keywords and marks at the front
 pub data Keyed (k : Keyword) : List Token → Type 0 where
   keyed : {p : Pos} {us : List Token} → Keyed k (key k p ∷ us)
 
-key_by-is : (w : Word) (p : Pos) (us : List Token) (k : Keyword) → key_by w ≡ Some k → Keyed k ((record { word = w; pos = p }) ∷ us)
-key_by-is (Name w) p us k h = cc
-key_by-is (Number v u l d) p us k h = cc
-key_by-is (Key j) p us k h = let e : j ≡ k = cc in subst (λ i. Keyed i (key j p ∷ us)) e Keyed.keyed
-key_by-is (Mark m) p us k h = cc
+key_by_is : (w : Word) (p : Pos) (us : List Token) (k : Keyword) → key_by w ≡ Some k → Keyed k ((record { word = w; pos = p }) ∷ us)
+key_by_is (Name w) p us k h = cc
+key_by_is (Number v u l d) p us k h = cc
+key_by_is (Key j) p us k h = let e : j ≡ k = cc in subst (λ i. Keyed i (key j p ∷ us)) e Keyed.keyed
+key_by_is (Mark m) p us k h = cc
 
-pub key_at-is : (ts : List Token) (k : Keyword) → key_at ts ≡ Some k → Keyed k ts
+pub key_at_is : (ts : List Token) (k : Keyword) → key_at ts ≡ Some k → Keyed k ts
 unfolding key_at
-key_at-is [] k h = cc
-key_at-is (t ∷ ts) k h = key_by-is t.word t.pos ts k h
+key_at_is [] k h = cc
+key_at_is (t ∷ ts) k h = key_by_is t.word t.pos ts k h
 
-mark_by-is : (w : Word) (p : Pos) (us : List Token) (m : Punct) → mark_by w ≡ Some m → Marked m ((record { word = w; pos = p }) ∷ us) p us
-mark_by-is (Name w) p us m h = cc
-mark_by-is (Number v u l d) p us m h = cc
-mark_by-is (Key j) p us m h = cc
-mark_by-is (Mark j) p us m h = let e : j ≡ m = cc in subst (λ i. Marked i (mark j p ∷ us) p us) e Marked.marked
+mark_by_is : (w : Word) (p : Pos) (us : List Token) (m : Punct) → mark_by w ≡ Some m → Marked m ((record { word = w; pos = p }) ∷ us) p us
+mark_by_is (Name w) p us m h = cc
+mark_by_is (Number v u l d) p us m h = cc
+mark_by_is (Key j) p us m h = cc
+mark_by_is (Mark j) p us m h = let e : j ≡ m = cc in subst (λ i. Marked i (mark j p ∷ us) p us) e Marked.marked
 
 -- the place of the mark at the front
-pub mark_at-is : (ts : List Token) (m : Punct) → mark_at ts ≡ Some m → (p : Pos) × Marked m ts p (after ts)
+pub mark_at_is : (ts : List Token) (m : Punct) → mark_at ts ≡ Some m → (p : Pos) × Marked m ts p (after ts)
 unfolding mark_at
-mark_at-is [] m h = cc
-mark_at-is (t ∷ ts) m h = (t.pos, mark_by-is t.word t.pos ts m h)
+mark_at_is [] m h = cc
+mark_at_is (t ∷ ts) m h = (t.pos, mark_by_is t.word t.pos ts m h)
 
 -- the token at the front is taken
 pub data KeyAt (k : Keyword) : List Token → Pos → List Token → Type 0 where
@@ -172,18 +172,18 @@ take_key : (k : Keyword) (ts : List Token) → Keyed k ts → Yields (λ p us. K
 take_key k _ Keyed.keyed = Yields.got KeyAt.key_at_front
 
 pub take_key_at : (ts : List Token) (k : Keyword) → key_at ts ≡ Some k → Yields (λ p us. KeyAt k ts p us) (takes ts)
-take_key_at ts k h = take_key k ts (key_at-is ts k h)
+take_key_at ts k h = take_key k ts (key_at_is ts k h)
 
 take_mark : (P : Punct → Type 0) (m : Punct) (ts : List Token) (p : Pos) (us : List Token) → Marked m ts p us → P m → Yields (λ p us. MarkAt P ts p us) (takes ts)
 take_mark P m _ _ _ Marked.marked h = Yields.got (MarkAt.mark_at_front h)
 
 pub take_mark_at : (P : Punct → Type 0) (ts : List Token) (m : Punct) → mark_at ts ≡ Some m → P m → Yields (λ p us. MarkAt P ts p us) (takes ts)
-take_mark_at P ts m e h = let k = mark_at-is ts m e in take_mark P m ts k.0 (after ts) k.1 h
+take_mark_at P ts m e h = let k = mark_at_is ts m e in take_mark P m ts k.0 (after ts) k.1 h
 
-pub sees-is : (m : Punct) (ts : List Token) → sees m ts ≡ true → (p : Pos) × Marked m ts p (after ts)
+pub sees_is : (m : Punct) (ts : List Token) → sees m ts ≡ true → (p : Pos) × Marked m ts p (after ts)
 unfolding sees
-sees-is m [] h = cc
-sees-is m (t ∷ ts) h = (t.pos, marked-is m t.word t.pos ts (is_mark-same m t.word h))
+sees_is m [] h = cc
+sees_is m (t ∷ ts) h = (t.pos, marked_is m t.word t.pos ts (is_mark_same m t.word h))
 
 -- ---- lists
 -- each item is in front of a list of them

@@ -8,7 +8,6 @@ use Rattle.sa_tokens.specs.declared.keyword.Keyword.TheVariants as k
 use Rattle.sa_tokens.specs.declared.punct.Punct.{Punct}
 use Rattle.sa_tokens.specs.declared.punct.Punct.TheVariants as m
 use Rattle.sa_tokens.specs.declared.token.Token.{Token}
-use Rattle.sa_syntax.specs.declared.decl.Name.{Name as Named}
 use Rattle.sa_syntax.specs.declared.decl.Specifiers.{Specifiers}
 use Rattle.sa_syntax.specs.declared.decl.Struct.{Struct}
 use Rattle.sa_syntax.specs.declared.decl.Declr.{Declr}
@@ -23,12 +22,11 @@ use Rattle.sa_syntax.specs.declared.stmt.Arg.{Arg}
 use Rattle.sa_syntax.specs.declared.stmt.Directive.{Directive}
 use Rattle.sa_syntax.specs.declared.stmt.Directive.TheVariants as d
 use Rattle.sa_syntax.specs.declared.stmt.Stmt.{Stmt}
-use Rattle.sa_syntax.specs.declared.unit.Params.{Params}
 use Rattle.sa_syntax.specs.declared.unit.Item.{Item}
 use Rattle.sa_syntax.specs.Trees as tree
 use Rattle.sa_syntax.specs.Words.{Names, begins_with_star, begins_with_else, begins_with_label, is_void_alone}
 use Rattle.sa_syntax.specs.Statements.{all_named}
-use Rattle.sa_syntax.specs.Reading.{Parser, Read, Got, Stuck, Deep, and_then, sees, after, expect, opens, any_name, variable, name_at, key_at, mark_at, unless_type, taken, many, turns}
+use Rattle.sa_syntax.specs.Reading.{Parser, Got, Stuck, Deep, and_then, sees, after, expect, any_name, variable, name_at, key_at, mark_at, unless_type, taken, turns}
 use Rattle.sa_syntax.specs.ReadExpr.{begins_type, is_some, by_name, place_by, inside}
 use Rattle.sa_syntax.specs.ReadExpr as expr
 use Rattle.sa_syntax.specs.ReadStmt as read
@@ -37,166 +35,166 @@ use Rattle.sa_syntax.proofs.RoomLemmas.{Less, less_then, less_if, less_if_reader
 use Rattle.sa_syntax.proofs.ExprRoom.{whole_less, place_less, specifiers_less, declr_less}
 
 -- ---- initialisers
-inits_from-room : (one wide : Parser Init) → ((ts : List Token) → Less (one ts) (wide ts)) → (left : ℕ) (found : List Init) (ts : List Token) → Less (read.inits_from one left found ts) (read.inits_from wide left found ts)
+inits_from_room : (one wide : Parser Init) → ((ts : List Token) → Less (one ts) (wide ts)) → (left : ℕ) (found : List Init) (ts : List Token) → Less (read.inits_from one left found ts) (read.inits_from wide left found ts)
 unfolding read.inits_from
-inits_from-room one wide each zero found ts = Less.same
-inits_from-room one wide each (suc left) found ts =
+inits_from_room one wide each zero found ts = Less.same
+inits_from_room one wide each (suc left) found ts =
     less_then (each ts) (λ i us.
     less_if_reader _ _ _ _ (sees m.Comma us) us
-        (less_then (Less.same {r = expect m.Comma us}) (λ p vs.
-        less_if_reader _ _ _ _ (sees m.CloseBrace vs) vs Less.same (inits_from-room one wide each left (found ++ i ∷ []) vs)))
-        Less.same)
+    (less_then (Less.same {r = expect m.Comma us}) (λ p vs.
+    less_if_reader _ _ _ _ (sees m.CloseBrace vs) vs Less.same (inits_from_room one wide each left (found ++ i ∷ []) vs)))
+    Less.same)
 
-braces-room : (n more : ℕ) → n ≤ more → (one wide : Parser Init) → ((ts : List Token) → Less (one ts) (wide ts)) → (ts : List Token) → Less (read.braces n one ts) (read.braces more wide ts)
+braces_room : (n more : ℕ) → n ≤ more → (one wide : Parser Init) → ((ts : List Token) → Less (one ts) (wide ts)) → (ts : List Token) → Less (read.braces n one ts) (read.braces more wide ts)
 unfolding read.braces
-braces-room n more h one wide each ts = less_then (less_opens n more h m.OpenBrace ts) (λ p us. less_then (inits_from-room one wide each (turns us) [] us) (λ is vs. Less.same))
+braces_room n more h one wide each ts = less_then (less_opens n more h m.OpenBrace ts) (λ p us. less_then (inits_from_room one wide each (turns us) [] us) (λ is vs. Less.same))
 
-init_by-room : (ns : Names) (n more : ℕ) → n ≤ more → (one wide : Parser Init) → ((ts : List Token) → Less (one ts) (wide ts)) → (ts : List Token) → Less (read.init_by ns n one ts) (read.init_by ns more wide ts)
+init_by_room : (ns : Names) (n more : ℕ) → n ≤ more → (one wide : Parser Init) → ((ts : List Token) → Less (one ts) (wide ts)) → (ts : List Token) → Less (read.init_by ns n one ts) (read.init_by ns more wide ts)
 unfolding read.init_by
-init_by-room ns n more h one wide each ts = less_if (sees m.OpenBrace ts) (braces-room n more h one wide each ts) (less_then (whole_less ns n more h ts) (λ a us. Less.same))
+init_by_room ns n more h one wide each ts = less_if (sees m.OpenBrace ts) (braces_room n more h one wide each ts) (less_then (whole_less ns n more h ts) (λ a us. Less.same))
 
-init_at-room : (ns : Names) (n more : ℕ) → n ≤ more → (ts : List Token) → Less (read.init_at ns n ts) (read.init_at ns more ts)
+init_at_room : (ns : Names) (n more : ℕ) → n ≤ more → (ts : List Token) → Less (read.init_at ns n ts) (read.init_at ns more ts)
 unfolding read.init_at
-init_at-room ns zero zero h ts = Less.same
-init_at-room ns zero (suc more) h ts = init_by-room ns zero (suc more) h (λ us. Deep us) (read.init_at ns more) (λ us. Less.out) ts
-init_at-room ns (suc n) zero h ts = absurd (omega arith)
-init_at-room ns (suc n) (suc more) h ts = init_by-room ns (suc n) (suc more) h (read.init_at ns n) (read.init_at ns more) (init_at-room ns n more (omega arith)) ts
+init_at_room ns zero zero h ts = Less.same
+init_at_room ns zero (suc more) h ts = init_by_room ns zero (suc more) h (λ us. Deep us) (read.init_at ns more) (λ us. Less.out) ts
+init_at_room ns (suc n) zero h ts = absurd (omega arith)
+init_at_room ns (suc n) (suc more) h ts = init_by_room ns (suc n) (suc more) h (read.init_at ns n) (read.init_at ns more) (init_at_room ns n more (omega arith)) ts
 
 module _ (ns : Names) (n more : ℕ) (room : n ≤ more) where
-  init_declr-room : (ts : List Token) → Less (read.init_declr ns n ts) (read.init_declr ns more ts)
+  init_declr_room : (ts : List Token) → Less (read.init_declr ns n ts) (read.init_declr ns more ts)
   unfolding read.init_declr
-  init_declr-room ts =
+  init_declr_room ts =
       less_then (declr_less ns n more room ts) (λ x us.
-      less_if (sees m.Equal us) (less_then (Less.same {r = expect m.Equal us}) (λ p vs. less_then (init_at-room ns n more room vs) (λ i ws. Less.same))) Less.same)
+      less_if (sees m.Equal us) (less_then (Less.same {r = expect m.Equal us}) (λ p vs. less_then (init_at_room ns n more room vs) (λ i ws. Less.same))) Less.same)
 
   -- ---- calls
-  arg_value-room : (ts : List Token) → Less (read.arg_value ns n ts) (read.arg_value ns more ts)
+  arg_value_room : (ts : List Token) → Less (read.arg_value ns n ts) (read.arg_value ns more ts)
   unfolding read.arg_value
-  arg_value-room ts = less_if (sees m.Ampersand ts)
+  arg_value_room ts = less_if (sees m.Ampersand ts)
       (less_then (Less.same {r = expect m.Ampersand ts}) (λ p us. less_then (place_less ns n more room us) (λ x vs. Less.same)))
       (less_then (whole_less ns n more room ts) (λ a us. Less.same))
 
-  args_from-room : (left : ℕ) (p : Pos) (found : List Arg) (ts : List Token) → Less (read.args_from ns n left p found ts) (read.args_from ns more left p found ts)
+  args_from_room : (left : ℕ) (p : Pos) (found : List Arg) (ts : List Token) → Less (read.args_from ns n left p found ts) (read.args_from ns more left p found ts)
   unfolding read.args_from
-  args_from-room zero p found ts = Less.same
-  args_from-room (suc left) p found ts =
-      less_then (arg_value-room ts) (λ v us.
-      less_if (sees m.Comma us) (less_then (Less.same {r = expect m.Comma us}) (λ q vs. args_from-room left q (found ++ tree.arg p v ∷ []) vs)) Less.same)
+  args_from_room zero p found ts = Less.same
+  args_from_room (suc left) p found ts =
+      less_then (arg_value_room ts) (λ v us.
+      less_if (sees m.Comma us) (less_then (Less.same {r = expect m.Comma us}) (λ q vs. args_from_room left q (found ++ tree.arg p v ∷ []) vs)) Less.same)
 
-args-room : (ns : Names) (p : Pos) (n more : ℕ) → n ≤ more → (ts : List Token) → Less (read.args ns p n ts) (read.args ns p more ts)
+args_room : (ns : Names) (p : Pos) (n more : ℕ) → n ≤ more → (ts : List Token) → Less (read.args ns p n ts) (read.args ns p more ts)
 unfolding read.args
-args-room ns p n more room ts = less_if (sees m.CloseParen ts) Less.same (args_from-room ns n more room (turns ts) p [] ts)
+args_room ns p n more room ts = less_if (sees m.CloseParen ts) Less.same (args_from_room ns n more room (turns ts) p [] ts)
 
-double_bracket-room : {A : Type 0} (n more : ℕ) → n ≤ more → (one wide : Parser A) → ((ts : List Token) → Less (one ts) (wide ts)) → (ts : List Token) → Less (read.double_bracket n one ts) (read.double_bracket more wide ts)
+double_bracket_room : {A : Type 0} (n more : ℕ) → n ≤ more → (one wide : Parser A) → ((ts : List Token) → Less (one ts) (wide ts)) → (ts : List Token) → Less (read.double_bracket n one ts) (read.double_bracket more wide ts)
 unfolding read.double_bracket
-double_bracket-room n more room one wide each ts =
+double_bracket_room n more room one wide each ts =
     less_then (less_opens n more room m.OpenParen ts) (λ p us.
     less_then (less_opens (n - 1) (more - 1) (omega arith) m.OpenParen us) (λ q vs.
     less_then (each vs) (λ a ws. Less.same)))
 
 module _ (ns : Names) (n more : ℕ) (room : n ≤ more) where
-  call-room : (ts : List Token) → Less (read.call ns n ts) (read.call ns more ts)
+  call_room : (ts : List Token) → Less (read.call ns n ts) (read.call ns more ts)
   unfolding read.call
-  call-room ts =
+  call_room ts =
       less_then (Less.same {r = variable ns ts}) (λ x us.
       less_then (less_opens n more room m.OpenParen us) (λ p vs.
-      less_then (less_within (read.args ns p) (args-room ns p) n more room vs) (λ xs ws. Less.same)))
+      less_then (less_within (read.args ns p) (args_room ns p) n more room vs) (λ xs ws. Less.same)))
 
   -- ---- assignments
-  before-room : (t : Turn) (ts : List Token) → Less (read.before ns n t ts) (read.before ns more t ts)
+  before_room : (t : Turn) (ts : List Token) → Less (read.before ns n t ts) (read.before ns more t ts)
   unfolding read.before
-  before-room t ts = less_then (Less.same {r = takes ts}) (λ p us. less_then (place_less ns n more room us) (λ x vs. Less.same))
+  before_room t ts = less_then (Less.same {r = takes ts}) (λ p us. less_then (place_less ns n more room us) (λ x vs. Less.same))
 
-  compounded-room : (x : Place) (o : Option Compound) (ts : List Token) → Less (read.compounded ns n x o ts) (read.compounded ns more x o ts)
-  compounded-room x None ts = Less.same
-  compounded-room x (Some op) ts = less_then (Less.same {r = takes ts}) (λ p us. less_then (whole_less ns n more room us) (λ a vs. Less.same))
+  compounded_room : (x : Place) (o : Option Compound) (ts : List Token) → Less (read.compounded ns n x o ts) (read.compounded ns more x o ts)
+  compounded_room x None ts = Less.same
+  compounded_room x (Some op) ts = less_then (Less.same {r = takes ts}) (λ p us. less_then (whole_less ns n more room us) (λ a vs. Less.same))
 
-  turned-room : (star : Bool) (x : Place) (o : Option Turn) (ts : List Token) → Less (read.turned ns n star x o ts) (read.turned ns more star x o ts)
-  turned-room star x None ts = compounded-room x (read.compound_in (mark_at ts)) ts
-  turned-room star x (Some t) ts = Less.same
+  turned_room : (star : Bool) (x : Place) (o : Option Turn) (ts : List Token) → Less (read.turned ns n star x o ts) (read.turned ns more star x o ts)
+  turned_room star x None ts = compounded_room x (read.compound_in (mark_at ts)) ts
+  turned_room star x (Some t) ts = Less.same
 
-  assigned-room : (star : Bool) (x : Place) (ts : List Token) → Less (read.assigned ns n star x ts) (read.assigned ns more star x ts)
+  assigned_room : (star : Bool) (x : Place) (ts : List Token) → Less (read.assigned ns n star x ts) (read.assigned ns more star x ts)
   unfolding read.assigned
-  assigned-room star x ts = less_if (sees m.Equal ts) (less_then (Less.same {r = expect m.Equal ts}) (λ p us. less_then (whole_less ns n more room us) (λ a vs. Less.same))) (turned-room star x (read.turn_in (mark_at ts)) ts)
+  assigned_room star x ts = less_if (sees m.Equal ts) (less_then (Less.same {r = expect m.Equal ts}) (λ p us. less_then (whole_less ns n more room us) (λ a vs. Less.same))) (turned_room star x (read.turn_in (mark_at ts)) ts)
 
-  simple_by-room : (o : Option Turn) (ts : List Token) → Less (read.simple_by ns n o ts) (read.simple_by ns more o ts)
-  simple_by-room (Some t) ts = before-room t ts
-  simple_by-room None ts = less_then (place_less ns n more room ts) (λ x us. assigned-room (begins_with_star ts) x us)
+  simple_by_room : (o : Option Turn) (ts : List Token) → Less (read.simple_by ns n o ts) (read.simple_by ns more o ts)
+  simple_by_room (Some t) ts = before_room t ts
+  simple_by_room None ts = less_then (place_less ns n more room ts) (λ x us. assigned_room (begins_with_star ts) x us)
 
-  simple-room : (ts : List Token) → Less (read.simple ns n ts) (read.simple ns more ts)
+  simple_room : (ts : List Token) → Less (read.simple ns n ts) (read.simple ns more ts)
   unfolding read.simple
-  simple-room ts = simple_by-room (read.turn_in (mark_at ts)) ts
+  simple_room ts = simple_by_room (read.turn_in (mark_at ts)) ts
 
   -- ---- locals
-  local_start-room : (x : Declr) (ts : List Token) → Less (read.local_start ns n x ts) (read.local_start ns more x ts)
+  local_start_room : (x : Declr) (ts : List Token) → Less (read.local_start ns n x ts) (read.local_start ns more x ts)
   unfolding read.local_start
-  local_start-room x ts =
+  local_start_room x ts =
       less_then (Less.same {r = expect m.Equal ts}) (λ p us.
-      less_if (read.sees_call ns us) (less_then (call-room us) (λ c vs. Less.same)) (less_then (init_at-room ns n more room us) (λ i vs. Less.same)))
+      less_if (read.sees_call ns us) (less_then (call_room us) (λ c vs. Less.same)) (less_then (init_at_room ns n more room us) (λ i vs. Less.same)))
 
-  local_declr-room : (ts : List Token) → Less (read.local_declr ns n ts) (read.local_declr ns more ts)
+  local_declr_room : (ts : List Token) → Less (read.local_declr ns n ts) (read.local_declr ns more ts)
   unfolding read.local_declr
-  local_declr-room ts = less_then (declr_less ns n more room ts) (λ x us. less_if (sees m.Equal us) (local_start-room x us) Less.same)
+  local_declr_room ts = less_then (declr_less ns n more room ts) (λ x us. less_if (sees m.Equal us) (local_start_room x us) Less.same)
 
-  local-room : (ts : List Token) → Less (read.local ns n ts) (read.local ns more ts)
+  local_room : (ts : List Token) → Less (read.local ns n ts) (read.local ns more ts)
   unfolding read.local
-  local-room ts = less_then (specifiers_less ns n more room ts) (λ t us. less_then (less_list m.Semicolon (read.local_declr ns n) (read.local_declr ns more) local_declr-room us) (λ xs vs. Less.same))
+  local_room ts = less_then (specifiers_less ns n more room ts) (λ t us. less_then (less_list m.Semicolon (read.local_declr ns n) (read.local_declr ns more) local_declr_room us) (λ xs vs. Less.same))
 
   -- ---- directives
-  bare-room : (x : Directive) (ts : List Token) → Less (read.bare n x ts) (read.bare more x ts)
+  bare_room : (x : Directive) (ts : List Token) → Less (read.bare n x ts) (read.bare more x ts)
   unfolding read.bare
-  bare-room x ts = less_then (Less.same {r = takes ts}) (λ p us. double_bracket-room n more room (λ vs. Got x vs) (λ vs. Got x vs) (λ vs. Less.same) us)
+  bare_room x ts = less_then (Less.same {r = takes ts}) (λ p us. double_bracket_room n more room (λ vs. Got x vs) (λ vs. Got x vs) (λ vs. Less.same) us)
 
-  with_expr-room : (f : Expr → Directive) (ts : List Token) → Less (read.with_expr ns n f ts) (read.with_expr ns more f ts)
+  with_expr_room : (f : Expr → Directive) (ts : List Token) → Less (read.with_expr ns n f ts) (read.with_expr ns more f ts)
   unfolding read.with_expr
-  with_expr-room f ts =
+  with_expr_room f ts =
       less_then
-          (less_then (Less.same {r = takes ts}) (λ p us.
-          double_bracket-room n more room (read.within (read.within (λ j. read.expr ns j)) n) (read.within (read.within (λ j. read.expr ns j)) more)
-              (less_within (read.within (λ j. read.expr ns j)) (less_within (λ j. read.expr ns j) (whole_less ns)) n more room) us))
-          (λ a vs. Less.same)
+      (less_then (Less.same {r = takes ts}) (λ p us.
+      double_bracket_room n more room (read.within (read.within (λ j. read.expr ns j)) n) (read.within (read.within (λ j. read.expr ns j)) more)
+      (less_within (read.within (λ j. read.expr ns j)) (less_within (λ j. read.expr ns j) (whole_less ns)) n more room) us))
+      (λ a vs. Less.same)
 
-  ended-room : (p wide : Parser Directive) (ts : List Token) → Less (p ts) (wide ts) → Less (read.ended p ts) (read.ended wide ts)
+  ended_room : (p wide : Parser Directive) (ts : List Token) → Less (p ts) (wide ts) → Less (read.ended p ts) (read.ended wide ts)
   unfolding read.ended
-  ended-room p wide ts one = less_then one (λ x us. Less.same)
+  ended_room p wide ts one = less_then one (λ x us. Less.same)
 
   -- ---- parts of statements
-  condition-room : (ts : List Token) → Less (read.condition ns n ts) (read.condition ns more ts)
+  condition_room : (ts : List Token) → Less (read.condition ns n ts) (read.condition ns more ts)
   unfolding read.condition
-  condition-room ts = less_then (less_opens n more room m.OpenParen ts) (λ p us. less_then (less_within (read.expr ns) (whole_less ns) n more room us) (λ c vs. Less.same))
+  condition_room ts = less_then (less_opens n more room m.OpenParen ts) (λ p us. less_then (less_within (read.expr ns) (whole_less ns) n more room us) (λ c vs. Less.same))
 
-  declares-room : (ts : List Token) → Less (read.declares ns n ts) (read.declares ns more ts)
+  declares_room : (ts : List Token) → Less (read.declares ns n ts) (read.declares ns more ts)
   unfolding read.declares
-  declares-room ts =
+  declares_room ts =
       less_then (specifiers_less ns n more room ts) (λ t us.
       less_then (declr_less ns n more room us) (λ x vs.
       less_then (Less.same {r = expect m.Equal vs}) (λ p ws.
       less_then (whole_less ns n more room ws) (λ a xs. Less.same))))
 
-first_of-room : (ns : Names) (n more : ℕ) → n ≤ more → (ts : List Token) → Less (read.first_of ns n ts) (read.first_of ns more ts)
+first_of_room : (ns : Names) (n more : ℕ) → n ≤ more → (ts : List Token) → Less (read.first_of ns n ts) (read.first_of ns more ts)
 unfolding read.first_of
-first_of-room ns n more room ts = less_if (sees m.Semicolon ts) Less.same (less_if (begins_type ns ts) (declares-room ns n more room ts) (less_then (simple-room ns n more room ts) (λ a us. Less.same)))
+first_of_room ns n more room ts = less_if (sees m.Semicolon ts) Less.same (less_if (begins_type ns ts) (declares_room ns n more room ts) (less_then (simple_room ns n more room ts) (λ a us. Less.same)))
 
-expr_before-room : (ns : Names) (mk : Punct) (n more : ℕ) → n ≤ more → (ts : List Token) → Less (read.expr_before ns mk n ts) (read.expr_before ns mk more ts)
+expr_before_room : (ns : Names) (mk : Punct) (n more : ℕ) → n ≤ more → (ts : List Token) → Less (read.expr_before ns mk n ts) (read.expr_before ns mk more ts)
 unfolding read.expr_before
-expr_before-room ns mk n more room ts = less_if (sees mk ts) Less.same (less_then (whole_less ns n more room ts) (λ a us. Less.same))
+expr_before_room ns mk n more room ts = less_if (sees mk ts) Less.same (less_then (whole_less ns n more room ts) (λ a us. Less.same))
 
-simple_before-room : (ns : Names) (mk : Punct) (n more : ℕ) → n ≤ more → (ts : List Token) → Less (read.simple_before ns mk n ts) (read.simple_before ns mk more ts)
+simple_before_room : (ns : Names) (mk : Punct) (n more : ℕ) → n ≤ more → (ts : List Token) → Less (read.simple_before ns mk n ts) (read.simple_before ns mk more ts)
 unfolding read.simple_before
-simple_before-room ns mk n more room ts = less_if (sees mk ts) Less.same (less_then (simple-room ns n more room ts) (λ a us. Less.same))
+simple_before_room ns mk n more room ts = less_if (sees mk ts) Less.same (less_then (simple_room ns n more room ts) (λ a us. Less.same))
 
 module _ (ns : Names) (n more : ℕ) (room : n ≤ more) where
-  case-room : (ts : List Token) → Less (read.case ns n ts) (read.case ns more ts)
+  case_room : (ts : List Token) → Less (read.case ns n ts) (read.case ns more ts)
   unfolding read.case
-  case-room ts = less_then (Less.same {r = takes ts}) (λ p us. less_then (whole_less ns n more room us) (λ a vs. Less.same))
+  case_room ts = less_then (Less.same {r = takes ts}) (λ p us. less_then (whole_less ns n more room us) (λ a vs. Less.same))
 
-  label_by-room : (o : Option Keyword) (ts : List Token) → Less (read.label_by ns n o ts) (read.label_by ns more o ts)
-  label_by-room (Some k.Case) ts = case-room ts
-  label_by-room o ts = Less.same
+  label_by_room : (o : Option Keyword) (ts : List Token) → Less (read.label_by ns n o ts) (read.label_by ns more o ts)
+  label_by_room (Some k.Case) ts = case_room ts
+  label_by_room o ts = Less.same
 
-  a_label-room : (ts : List Token) → Less (read.a_label ns n ts) (read.a_label ns more ts)
+  a_label_room : (ts : List Token) → Less (read.a_label ns n ts) (read.a_label ns more ts)
   unfolding read.a_label
-  a_label-room ts = label_by-room (key_at ts) ts
+  a_label_room ts = label_by_room (key_at ts) ts
 
 -- ---- statements: the readers one deeper have more room
 pub record IsRoomier (bodies wide : Bodies) : Type 0 where
@@ -205,139 +203,139 @@ pub record IsRoomier (bodies wide : Bodies) : Type 0 where
   pub groups : (ts : List Token) → Less (bodies.groups ts) (wide.groups ts)
 
 module _ (ns : Names) (n more : ℕ) (bodies wide : Bodies) (room : n ≤ more) (deeper : IsRoomier bodies wide) where
-  block-room : (ts : List Token) → Less (read.block ns n bodies ts) (read.block ns more wide ts)
+  block_room : (ts : List Token) → Less (read.block ns n bodies ts) (read.block ns more wide ts)
   unfolding read.block
-  block-room ts = less_then (less_opens n more room m.OpenBrace ts) (λ p us. less_then (deeper.items us) (λ is vs. Less.same))
+  block_room ts = less_then (less_opens n more room m.OpenBrace ts) (λ p us. less_then (deeper.items us) (λ is vs. Less.same))
 
-  call_stmt-room : (ts : List Token) → Less (read.call_stmt ns n bodies ts) (read.call_stmt ns more wide ts)
+  call_stmt_room : (ts : List Token) → Less (read.call_stmt ns n bodies ts) (read.call_stmt ns more wide ts)
   unfolding read.call_stmt
-  call_stmt-room ts = less_then (call-room ns n more room ts) (λ c us. Less.same)
+  call_stmt_room ts = less_then (call_room ns n more room ts) (λ c us. Less.same)
 
-  gives-room : (x : Place) (ts : List Token) → Less (read.gives ns n bodies x ts) (read.gives ns more wide x ts)
+  gives_room : (x : Place) (ts : List Token) → Less (read.gives ns n bodies x ts) (read.gives ns more wide x ts)
   unfolding read.gives
-  gives-room x ts = less_then (Less.same {r = expect m.Equal ts}) (λ p us. less_then (call-room ns n more room us) (λ c vs. Less.same))
+  gives_room x ts = less_then (Less.same {r = expect m.Equal ts}) (λ p us. less_then (call_room ns n more room us) (λ c vs. Less.same))
 
-  simple_ended-room : (p q : Parser Simple) (ts : List Token) → Less (p ts) (q ts) → Less (read.simple_ended ns n bodies p ts) (read.simple_ended ns more wide q ts)
+  simple_ended_room : (p q : Parser Simple) (ts : List Token) → Less (p ts) (q ts) → Less (read.simple_ended ns n bodies p ts) (read.simple_ended ns more wide q ts)
   unfolding read.simple_ended
-  simple_ended-room p q ts one = less_then one (λ a us. Less.same)
+  simple_ended_room p q ts one = less_then one (λ a us. Less.same)
 
-  assigned_stmt-room : (star : Bool) (x : Place) (ts : List Token) → Less (read.assigned_stmt ns n bodies star x ts) (read.assigned_stmt ns more wide star x ts)
+  assigned_stmt_room : (star : Bool) (x : Place) (ts : List Token) → Less (read.assigned_stmt ns n bodies star x ts) (read.assigned_stmt ns more wide star x ts)
   unfolding read.assigned_stmt
-  assigned_stmt-room star x ts = less_if (sees m.Equal ts && read.sees_call ns (after ts)) (gives-room x ts) (simple_ended-room (read.assigned ns n star x) (read.assigned ns more star x) ts (assigned-room ns n more room star x ts))
+  assigned_stmt_room star x ts = less_if (sees m.Equal ts && read.sees_call ns (after ts)) (gives_room x ts) (simple_ended_room (read.assigned ns n star x) (read.assigned ns more star x) ts (assigned_room ns n more room star x ts))
 
-  placed-room : (ts : List Token) → Less (read.placed ns n bodies ts) (read.placed ns more wide ts)
+  placed_room : (ts : List Token) → Less (read.placed ns n bodies ts) (read.placed ns more wide ts)
   unfolding read.placed
-  placed-room ts = less_if (read.sees_call ns ts) (call_stmt-room ts) (less_then (place_less ns n more room ts) (λ x us. assigned_stmt-room (begins_with_star ts) x us))
+  placed_room ts = less_if (read.sees_call ns ts) (call_stmt_room ts) (less_then (place_less ns n more room ts) (λ x us. assigned_stmt_room (begins_with_star ts) x us))
 
-  if_stmt-room : (ts : List Token) → Less (read.if_stmt ns n bodies ts) (read.if_stmt ns more wide ts)
+  if_stmt_room : (ts : List Token) → Less (read.if_stmt ns n bodies ts) (read.if_stmt ns more wide ts)
   unfolding read.if_stmt
-  if_stmt-room ts =
+  if_stmt_room ts =
       less_then (Less.same {r = takes ts}) (λ p us.
-      less_then (condition-room ns n more room us) (λ c vs.
+      less_then (condition_room ns n more room us) (λ c vs.
       less_then (deeper.stmt vs) (λ a ws.
       less_if (begins_with_else ws) (less_then (Less.same {r = takes ws}) (λ q xs. less_then (deeper.stmt xs) (λ o ys. Less.same))) Less.same)))
 
-  while_stmt-room : (ts : List Token) → Less (read.while_stmt ns n bodies ts) (read.while_stmt ns more wide ts)
+  while_stmt_room : (ts : List Token) → Less (read.while_stmt ns n bodies ts) (read.while_stmt ns more wide ts)
   unfolding read.while_stmt
-  while_stmt-room ts =
+  while_stmt_room ts =
       less_then (Less.same {r = takes ts}) (λ p us.
-      less_then (condition-room ns n more room us) (λ c vs.
+      less_then (condition_room ns n more room us) (λ c vs.
       less_then (deeper.stmt vs) (λ a ws. Less.same)))
 
-  while_by-room : (o : Option Keyword) (ts : List Token) → Less (read.while_by ns n bodies o ts) (read.while_by ns more wide o ts)
-  while_by-room (Some k.While) ts = Less.same
-  while_by-room o ts = Less.same
+  while_by_room : (o : Option Keyword) (ts : List Token) → Less (read.while_by ns n bodies o ts) (read.while_by ns more wide o ts)
+  while_by_room (Some k.While) ts = Less.same
+  while_by_room o ts = Less.same
 
-  expect_while-room : (ts : List Token) → Less (read.expect_while ns n bodies ts) (read.expect_while ns more wide ts)
+  expect_while_room : (ts : List Token) → Less (read.expect_while ns n bodies ts) (read.expect_while ns more wide ts)
   unfolding read.expect_while
-  expect_while-room ts = while_by-room (key_at ts) ts
+  expect_while_room ts = while_by_room (key_at ts) ts
 
-  do_stmt-room : (ts : List Token) → Less (read.do_stmt ns n bodies ts) (read.do_stmt ns more wide ts)
+  do_stmt_room : (ts : List Token) → Less (read.do_stmt ns n bodies ts) (read.do_stmt ns more wide ts)
   unfolding read.do_stmt
-  do_stmt-room ts =
+  do_stmt_room ts =
       less_then (Less.same {r = takes ts}) (λ p us.
       less_then (deeper.stmt us) (λ a vs.
-      less_then (expect_while-room vs) (λ q ws.
-      less_then (condition-room ns n more room ws) (λ c xs. Less.same))))
+      less_then (expect_while_room vs) (λ q ws.
+      less_then (condition_room ns n more room ws) (λ c xs. Less.same))))
 
-  for_stmt-room : (ts : List Token) → Less (read.for_stmt ns n bodies ts) (read.for_stmt ns more wide ts)
+  for_stmt_room : (ts : List Token) → Less (read.for_stmt ns n bodies ts) (read.for_stmt ns more wide ts)
   unfolding read.for_stmt
-  for_stmt-room ts =
+  for_stmt_room ts =
       less_then (Less.same {r = takes ts}) (λ p t2.
       less_then (less_opens n more room m.OpenParen t2) (λ q t3.
-      less_then (less_within (read.first_of ns) (first_of-room ns) n more room t3) (λ f t4.
+      less_then (less_within (read.first_of ns) (first_of_room ns) n more room t3) (λ f t4.
       less_then (Less.same {r = expect m.Semicolon t4}) (λ r t5.
-      less_then (less_within (read.expr_before ns m.Semicolon) (expr_before-room ns m.Semicolon) n more room t5) (λ c t6.
+      less_then (less_within (read.expr_before ns m.Semicolon) (expr_before_room ns m.Semicolon) n more room t5) (λ c t6.
       less_then (Less.same {r = expect m.Semicolon t6}) (λ t t7.
-      less_then (less_within (read.simple_before ns m.CloseParen) (simple_before-room ns m.CloseParen) n more room t7) (λ x t8.
+      less_then (less_within (read.simple_before ns m.CloseParen) (simple_before_room ns m.CloseParen) n more room t7) (λ x t8.
       less_then (Less.same {r = expect m.CloseParen t8}) (λ u t9.
       less_then (deeper.stmt t9) (λ a end. Less.same)))))))))
 
-  switch_stmt-room : (ts : List Token) → Less (read.switch_stmt ns n bodies ts) (read.switch_stmt ns more wide ts)
+  switch_stmt_room : (ts : List Token) → Less (read.switch_stmt ns n bodies ts) (read.switch_stmt ns more wide ts)
   unfolding read.switch_stmt
-  switch_stmt-room ts =
+  switch_stmt_room ts =
       less_then (Less.same {r = takes ts}) (λ p us.
-      less_then (condition-room ns n more room us) (λ c vs.
+      less_then (condition_room ns n more room us) (λ c vs.
       less_then (less_opens n more room m.OpenBrace vs) (λ q ws.
       less_then (deeper.groups ws) (λ gs xs. Less.same))))
 
-  empty-room : (ts : List Token) → Less (read.empty ns n bodies ts) (read.empty ns more wide ts)
+  empty_room : (ts : List Token) → Less (read.empty ns n bodies ts) (read.empty ns more wide ts)
   unfolding read.empty
-  empty-room ts = Less.same
+  empty_room ts = Less.same
 
-  break-room : (ts : List Token) → Less (read.break ns n bodies ts) (read.break ns more wide ts)
+  break_room : (ts : List Token) → Less (read.break ns n bodies ts) (read.break ns more wide ts)
   unfolding read.break
-  break-room ts = Less.same
+  break_room ts = Less.same
 
-  return-room : (ts : List Token) → Less (read.return ns n bodies ts) (read.return ns more wide ts)
+  return_room : (ts : List Token) → Less (read.return ns n bodies ts) (read.return ns more wide ts)
   unfolding read.return
-  return-room ts = less_then (Less.same {r = takes ts}) (λ p us. less_then (expr_before-room ns m.Semicolon n more room us) (λ c vs. Less.same))
+  return_room ts = less_then (Less.same {r = takes ts}) (λ p us. less_then (expr_before_room ns m.Semicolon n more room us) (λ c vs. Less.same))
 
-  mark_stmt-room : (o : Option Punct) (ts : List Token) → Less (read.mark_stmt ns n bodies o ts) (read.mark_stmt ns more wide o ts)
-  mark_stmt-room (Some m.OpenBrace) ts = block-room ts
-  mark_stmt-room (Some m.Semicolon) ts = empty-room ts
-  mark_stmt-room (Some m.PlusPlus) ts = simple_ended-room (read.simple ns n) (read.simple ns more) ts (simple-room ns n more room ts)
-  mark_stmt-room (Some m.MinusMinus) ts = simple_ended-room (read.simple ns n) (read.simple ns more) ts (simple-room ns n more room ts)
-  mark_stmt-room o ts = placed-room ts
+  mark_stmt_room : (o : Option Punct) (ts : List Token) → Less (read.mark_stmt ns n bodies o ts) (read.mark_stmt ns more wide o ts)
+  mark_stmt_room (Some m.OpenBrace) ts = block_room ts
+  mark_stmt_room (Some m.Semicolon) ts = empty_room ts
+  mark_stmt_room (Some m.PlusPlus) ts = simple_ended_room (read.simple ns n) (read.simple ns more) ts (simple_room ns n more room ts)
+  mark_stmt_room (Some m.MinusMinus) ts = simple_ended_room (read.simple ns n) (read.simple ns more) ts (simple_room ns n more room ts)
+  mark_stmt_room o ts = placed_room ts
 
-  stmt_by-room : (o : Option Keyword) (ts : List Token) → Less (read.stmt_by ns n bodies o ts) (read.stmt_by ns more wide o ts)
-  stmt_by-room None ts = mark_stmt-room (mark_at ts) ts
-  stmt_by-room (Some k.If) ts = if_stmt-room ts
-  stmt_by-room (Some k.While) ts = while_stmt-room ts
-  stmt_by-room (Some k.Do) ts = do_stmt-room ts
-  stmt_by-room (Some k.For) ts = for_stmt-room ts
-  stmt_by-room (Some k.Switch) ts = switch_stmt-room ts
-  stmt_by-room (Some k.Break) ts = break-room ts
-  stmt_by-room (Some k.Return) ts = return-room ts
-  stmt_by-room (Some k.WaitForClock) ts = ended-room ns n more room (read.bare n d.Wait) (read.bare more d.Wait) ts (bare-room ns n more room d.Wait ts)
-  stmt_by-room (Some k.Partition) ts = ended-room ns n more room (read.bare n d.Partition) (read.bare more d.Partition) ts (bare-room ns n more room d.Partition ts)
-  stmt_by-room (Some k.KnownFact) ts = ended-room ns n more room (read.with_expr ns n d.KnownFact) (read.with_expr ns more d.KnownFact) ts (with_expr-room ns n more room d.KnownFact ts)
-  stmt_by-room (Some k.Assert) ts = ended-room ns n more room (read.with_expr ns n d.Assert) (read.with_expr ns more d.Assert) ts (with_expr-room ns n more room d.Assert ts)
-  stmt_by-room (Some w) ts = Less.same
+  stmt_by_room : (o : Option Keyword) (ts : List Token) → Less (read.stmt_by ns n bodies o ts) (read.stmt_by ns more wide o ts)
+  stmt_by_room None ts = mark_stmt_room (mark_at ts) ts
+  stmt_by_room (Some k.If) ts = if_stmt_room ts
+  stmt_by_room (Some k.While) ts = while_stmt_room ts
+  stmt_by_room (Some k.Do) ts = do_stmt_room ts
+  stmt_by_room (Some k.For) ts = for_stmt_room ts
+  stmt_by_room (Some k.Switch) ts = switch_stmt_room ts
+  stmt_by_room (Some k.Break) ts = break_room ts
+  stmt_by_room (Some k.Return) ts = return_room ts
+  stmt_by_room (Some k.WaitForClock) ts = ended_room ns n more room (read.bare n d.Wait) (read.bare more d.Wait) ts (bare_room ns n more room d.Wait ts)
+  stmt_by_room (Some k.Partition) ts = ended_room ns n more room (read.bare n d.Partition) (read.bare more d.Partition) ts (bare_room ns n more room d.Partition ts)
+  stmt_by_room (Some k.KnownFact) ts = ended_room ns n more room (read.with_expr ns n d.KnownFact) (read.with_expr ns more d.KnownFact) ts (with_expr_room ns n more room d.KnownFact ts)
+  stmt_by_room (Some k.Assert) ts = ended_room ns n more room (read.with_expr ns n d.Assert) (read.with_expr ns more d.Assert) ts (with_expr_room ns n more room d.Assert ts)
+  stmt_by_room (Some w) ts = Less.same
 
-  stmt-room : (ts : List Token) → Less (read.stmt ns n bodies ts) (read.stmt ns more wide ts)
+  stmt_room : (ts : List Token) → Less (read.stmt ns n bodies ts) (read.stmt ns more wide ts)
   unfolding read.stmt
-  stmt-room ts = stmt_by-room (key_at ts) ts
+  stmt_room ts = stmt_by_room (key_at ts) ts
 
   -- ---- what stands in braces
-  block_item-room : (one other : Parser Stmt) → ((ts : List Token) → Less (one ts) (other ts)) → (ts : List Token) → Less (read.block_item ns n bodies one ts) (read.block_item ns more wide other ts)
+  block_item_room : (one other : Parser Stmt) → ((ts : List Token) → Less (one ts) (other ts)) → (ts : List Token) → Less (read.block_item ns n bodies one ts) (read.block_item ns more wide other ts)
   unfolding read.block_item
-  block_item-room one other each ts = less_if (begins_type ns ts) (less_then (local-room ns n more room ts) (λ l us. Less.same)) (less_then (each ts) (λ a us. Less.same))
+  block_item_room one other each ts = less_if (begins_type ns ts) (less_then (local_room ns n more room ts) (λ l us. Less.same)) (less_then (each ts) (λ a us. Less.same))
 
-  block_items-room : (one other : Parser Stmt) → ((ts : List Token) → Less (one ts) (other ts)) → (ts : List Token) → Less (read.block_items ns n bodies one ts) (read.block_items ns more wide other ts)
+  block_items_room : (one other : Parser Stmt) → ((ts : List Token) → Less (one ts) (other ts)) → (ts : List Token) → Less (read.block_items ns n bodies one ts) (read.block_items ns more wide other ts)
   unfolding read.block_items
-  block_items-room one other each = less_many read.no_close (read.block_item ns n bodies one) (read.block_item ns more wide other) (block_item-room one other each)
+  block_items_room one other each = less_many read.no_close (read.block_item ns n bodies one) (read.block_item ns more wide other) (block_item_room one other each)
 
-  a_group-room : (ts : List Token) → Less (read.a_group ns n bodies ts) (read.a_group ns more wide ts)
+  a_group_room : (ts : List Token) → Less (read.a_group ns n bodies ts) (read.a_group ns more wide ts)
   unfolding read.a_group
-  a_group-room ts =
-      less_then (a_label-room ns n more room ts) (λ l us.
-      less_then (less_many begins_with_label (read.a_label ns n) (read.a_label ns more) (a_label-room ns n more room) us) (λ ls vs.
+  a_group_room ts =
+      less_then (a_label_room ns n more room ts) (λ l us.
+      less_then (less_many begins_with_label (read.a_label ns n) (read.a_label ns more) (a_label_room ns n more room) us) (λ ls vs.
       less_then (less_many (read.goes_on ns n bodies) bodies.stmt wide.stmt deeper.stmt vs) (λ ss ws. Less.same)))
 
-  groups-room : (ts : List Token) → Less (read.groups ns n bodies ts) (read.groups ns more wide ts)
+  groups_room : (ts : List Token) → Less (read.groups ns n bodies ts) (read.groups ns more wide ts)
   unfolding read.groups
-  groups-room = less_many begins_with_label (read.a_group ns n bodies) (read.a_group ns more wide) a_group-room
+  groups_room = less_many begins_with_label (read.a_group ns n bodies) (read.a_group ns more wide) a_group_room
 
 -- ---- where no statement begins, none is read
 not_some : {A : Type 0} (o : Option A) → is_some o ≡ false → o ≡ None
@@ -406,90 +404,90 @@ none_first : (ns : Names) (n : ℕ) (bodies : Bodies) (ts : List Token) (b : Boo
 none_first ns n bodies ts true h = Less.out
 none_first ns n bodies ts false h = subst (λ r. Less (Stuck ts) r) (sym (none_read ns n bodies ts h)) Less.same
 
-bodies-room : (ns : Names) (n more : ℕ) → n ≤ more → IsRoomier (read.bodies ns n) (read.bodies ns more)
+bodies_room : (ns : Names) (n more : ℕ) → n ≤ more → IsRoomier (read.bodies ns n) (read.bodies ns more)
 unfolding read.bodies
-bodies-room ns zero zero h = record { stmt = λ ts. Less.same; items = λ ts. Less.same; groups = λ ts. Less.same }
-bodies-room ns zero (suc more) h = record { stmt = λ ts. none_first ns more (read.bodies ns more) ts (read.begins_stmt ns ts) refl; items = λ ts. Less.out; groups = λ ts. Less.out }
-bodies-room ns (suc n) zero h = absurd (omega arith)
-bodies-room ns (suc n) (suc more) h =
+bodies_room ns zero zero h = record { stmt = λ ts. Less.same; items = λ ts. Less.same; groups = λ ts. Less.same }
+bodies_room ns zero (suc more) h = record { stmt = λ ts. none_first ns more (read.bodies ns more) ts (read.begins_stmt ns ts) refl; items = λ ts. Less.out; groups = λ ts. Less.out }
+bodies_room ns (suc n) zero h = absurd (omega arith)
+bodies_room ns (suc n) (suc more) h =
     let room : n ≤ more = omega arith in
-    let deeper = bodies-room ns n more room in
+    let deeper = bodies_room ns n more room in
     let one = read.bodies ns n in
     let wide = read.bodies ns more in
     record {
-      stmt = stmt-room ns n more one wide room deeper;
-      items = block_items-room ns n more one wide room deeper one.stmt wide.stmt deeper.stmt;
-      groups = groups-room ns n more one wide room deeper;
+      stmt = stmt_room ns n more one wide room deeper;
+      items = block_items_room ns n more one wide room deeper one.stmt wide.stmt deeper.stmt;
+      groups = groups_room ns n more one wide room deeper;
     }
 
 pub stmt_less : (ns : Names) (n more : ℕ) → n ≤ more → (ts : List Token) → Less (read.stmt_at ns n ts) (read.stmt_at ns more ts)
-stmt_less ns n more h = stmt-room ns n more (read.bodies ns n) (read.bodies ns more) h (bodies-room ns n more h)
+stmt_less ns n more h = stmt_room ns n more (read.bodies ns n) (read.bodies ns more) h (bodies_room ns n more h)
 
 outermost_less : (ns : Names) (n more : ℕ) → n ≤ more → (ts : List Token) → Less (read.outermost ns n ts) (read.outermost ns more ts)
 unfolding read.outermost
-outermost_less ns n more h = block_items-room ns n more (read.bodies ns n) (read.bodies ns more) h (bodies-room ns n more h) (read.stmt_at ns n) (read.stmt_at ns more) (stmt_less ns n more h)
+outermost_less ns n more h = block_items_room ns n more (read.bodies ns n) (read.bodies ns more) h (bodies_room ns n more h) (read.stmt_at ns n) (read.stmt_at ns more) (stmt_less ns n more h)
 
 -- ---- functions
-param-room : (ns : Names) (n more : ℕ) → n ≤ more → (ts : List Token) → Less (read.param ns n ts) (read.param ns more ts)
+param_room : (ns : Names) (n more : ℕ) → n ≤ more → (ts : List Token) → Less (read.param ns n ts) (read.param ns more ts)
 unfolding read.param
-param-room ns n more room ts = less_then (specifiers_less ns n more room ts) (λ t us. Less.same)
+param_room ns n more room ts = less_then (specifiers_less ns n more room ts) (λ t us. Less.same)
 
-params-room : (ns : Names) (n more : ℕ) → n ≤ more → (ts : List Token) → Less (read.params ns n ts) (read.params ns more ts)
+params_room : (ns : Names) (n more : ℕ) → n ≤ more → (ts : List Token) → Less (read.params ns n ts) (read.params ns more ts)
 unfolding read.params
-params-room ns n more room ts = less_if (sees m.CloseParen ts) Less.same
-    (less_if (is_void_alone ts) Less.same (less_then (less_list m.CloseParen (read.param ns n) (read.param ns more) (param-room ns n more room) ts) (λ ps us. Less.same)))
+params_room ns n more room ts = less_if (sees m.CloseParen ts) Less.same
+    (less_if (is_void_alone ts) Less.same (less_then (less_list m.CloseParen (read.param ns n) (read.param ns more) (param_room ns n more room) ts) (λ ps us. Less.same)))
 
 module _ (ns : Names) (n more : ℕ) (room : n ≤ more) where
-  function-room : (t : Specifiers) (ts : List Token) → Less (read.function ns n t ts) (read.function ns more t ts)
+  function_room : (t : Specifiers) (ts : List Token) → Less (read.function ns n t ts) (read.function ns more t ts)
   unfolding read.function read.ends read.body
-  function-room t t1 =
+  function_room t t1 =
       less_then (Less.same {r = any_name t1}) (λ x t2.
       less_then (less_opens n more room m.OpenParen t2) (λ p t3.
-      less_then (less_within (read.params ns) (params-room ns) n more room t3) (λ ps t4.
+      less_then (less_within (read.params ns) (params_room ns) n more room t3) (λ ps t4.
       less_if (sees m.Semicolon t4) Less.same
-          (less_if (all_named ps)
-              (less_then (less_opens n more room m.OpenBrace t4) (λ r t5.
-              less_then (less_within (read.outermost ns) (outermost_less ns) n more room t5) (λ bs t6. Less.same)))
-              Less.same))))
+      (less_if (all_named ps)
+      (less_then (less_opens n more room m.OpenBrace t4) (λ r t5.
+      less_then (less_within (read.outermost ns) (outermost_less ns) n more room t5) (λ bs t6. Less.same)))
+      Less.same))))
 
-  global-room : (t : Specifiers) (ts : List Token) → Less (read.global ns n t ts) (read.global ns more t ts)
+  global_room : (t : Specifiers) (ts : List Token) → Less (read.global ns n t ts) (read.global ns more t ts)
   unfolding read.global
-  global-room t ts = less_then (less_list m.Semicolon (read.init_declr ns n) (read.init_declr ns more) (init_declr-room ns n more room) ts) (λ xs us. Less.same)
+  global_room t ts = less_then (less_list m.Semicolon (read.init_declr ns n) (read.init_declr ns more) (init_declr_room ns n more room) ts) (λ xs us. Less.same)
 
-  named_item-room : (t : Specifiers) (ts : List Token) → Less (read.named_item ns n t ts) (read.named_item ns more t ts)
+  named_item_room : (t : Specifiers) (ts : List Token) → Less (read.named_item ns n t ts) (read.named_item ns more t ts)
   unfolding read.named_item
-  named_item-room t ts = less_if (read.sees_function ts) (function-room t ts) (global-room t ts)
+  named_item_room t ts = less_if (read.sees_function ts) (function_room t ts) (global_room t ts)
 
-  typedef-room : (ts : List Token) → Less (read.typedef ns n ts) (read.typedef ns more ts)
+  typedef_room : (ts : List Token) → Less (read.typedef ns n ts) (read.typedef ns more ts)
   unfolding read.typedef
-  typedef-room ts = less_then (Less.same {r = takes ts}) (λ p us. less_then (specifiers_less ns n more room us) (λ t vs. Less.same))
+  typedef_room ts = less_then (Less.same {r = takes ts}) (λ p us. less_then (specifiers_less ns n more room us) (λ t vs. Less.same))
 
-  struct_or-room : (p : Pos) (t : Specifiers) (o : Option Struct) (ts : List Token) → Less (read.struct_or ns n p t o ts) (read.struct_or ns more p t o ts)
-  struct_or-room p t None ts = named_item-room t ts
-  struct_or-room p t (Some x) ts = less_if (sees m.Semicolon ts) Less.same (named_item-room t ts)
+  struct_or_room : (p : Pos) (t : Specifiers) (o : Option Struct) (ts : List Token) → Less (read.struct_or ns n p t o ts) (read.struct_or ns more p t o ts)
+  struct_or_room p t None ts = named_item_room t ts
+  struct_or_room p t (Some x) ts = less_if (sees m.Semicolon ts) Less.same (named_item_room t ts)
 
-  declared-room : (ts : List Token) → Less (read.declared ns n ts) (read.declared ns more ts)
+  declared_room : (ts : List Token) → Less (read.declared ns n ts) (read.declared ns more ts)
   unfolding read.declared
-  declared-room ts = less_then (specifiers_less ns n more room ts) (λ t us. struct_or-room (tree.pos_of ts) t (read.struct_of t) us)
+  declared_room ts = less_then (specifiers_less ns n more room ts) (λ t us. struct_or_room (tree.pos_of ts) t (read.struct_of t) us)
 
-  item_by-room : (o : Option Keyword) (ts : List Token) → Less (read.item_by ns n o ts) (read.item_by ns more o ts)
-  item_by-room (Some k.Typedef) ts = typedef-room ts
-  item_by-room o ts = declared-room ts
+  item_by_room : (o : Option Keyword) (ts : List Token) → Less (read.item_by ns n o ts) (read.item_by ns more o ts)
+  item_by_room (Some k.Typedef) ts = typedef_room ts
+  item_by_room o ts = declared_room ts
 
-  an_item-room : (ts : List Token) → Less (read.an_item ns n ts) (read.an_item ns more ts)
+  an_item_room : (ts : List Token) → Less (read.an_item ns n ts) (read.an_item ns more ts)
   unfolding read.an_item
-  an_item-room ts = item_by-room (key_at ts) ts
+  an_item_room ts = item_by_room (key_at ts) ts
 
 -- ---- sources
-items_from-room : (n more : ℕ) → n ≤ more → (left : ℕ) (ns : Names) (found : List Item) (ts : List Token) → Less (read.items_from n left ns found ts) (read.items_from more left ns found ts)
+items_from_room : (n more : ℕ) → n ≤ more → (left : ℕ) (ns : Names) (found : List Item) (ts : List Token) → Less (read.items_from n left ns found ts) (read.items_from more left ns found ts)
 unfolding read.items_from
-items_from-room n more room zero ns found ts = Less.same
-items_from-room n more room (suc left) ns found [] = Less.same
-items_from-room n more room (suc left) ns found (t ∷ ts) = less_then (an_item-room ns n more room (t ∷ ts)) (λ x us. items_from-room n more room left (read.names_after ns x) (found ++ x ∷ []) us)
+items_from_room n more room zero ns found ts = Less.same
+items_from_room n more room (suc left) ns found [] = Less.same
+items_from_room n more room (suc left) ns found (t ∷ ts) = less_then (an_item_room ns n more room (t ∷ ts)) (λ x us. items_from_room n more room left (read.names_after ns x) (found ++ x ∷ []) us)
 
-source-room : (n more : ℕ) → n ≤ more → (ts : List Token) → Less (read.source n ts) (read.source more ts)
+source_room : (n more : ℕ) → n ≤ more → (ts : List Token) → Less (read.source n ts) (read.source more ts)
 unfolding read.source
-source-room n more room ts = less_then (items_from-room n more room (turns ts) [] [] ts) (λ is us. Less.same)
+source_room n more room ts = less_then (items_from_room n more room (turns ts) [] [] ts) (λ is us. Less.same)
 
 pub sources_agree : (n more : ℕ) → n ≤ more → (ts : List Token) → ((vs : List Token) × (read.source n ts ≡ Deep vs)) ⊎ (read.source n ts ≡ read.source more ts)
-sources_agree n more room ts = agree (source-room n more room ts)
+sources_agree n more room ts = agree (source_room n more room ts)

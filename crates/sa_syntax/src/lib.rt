@@ -14,11 +14,11 @@ pub use decl::{
     Base, Bound, Declr, Field, Init, InitDeclr, Name, Qualified, Qualifier, ScalarWord, Specifiers,
     Start, Struct,
 };
+pub use expr::{Expr, Link, Operator, Place, PlaceBase, Prefix, Step};
 pub use laws::{
     more_room_reads_the_same, more_room_reads_the_same_source, readings_are_expressions,
     readings_are_sources,
 };
-pub use expr::{Expr, Link, Operator, Place, PlaceBase, Prefix, Step};
 pub use stmt::{
     Arg, ArgValue, Block, BlockItem, Call, Compound, Directive, First, Group, Label, Local,
     LocalDeclr, LocalStart, Simple, Stmt, Turn,
