@@ -1,3 +1,3 @@
+pub mod Fronts
 pub mod Rooms
 pub mod Turns
-pub mod Unary

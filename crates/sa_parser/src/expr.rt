@@ -258,7 +258,7 @@ impl Grammar<'_> {
 
     /// An operand.
     #[cycle(expression)]
-    #[tactic(auto, using(crate::proofs::Unary::unary_seen))]
+    #[tactic(auto, using(crate::proofs::Fronts::unary_seen))]
     fn unary(&self, tokens: &mut Tokens<'_>, room: usize) -> Result<Expr, Stop>
         ensures { Reads (read.unary self.now.names.now room (inside self.now.names.now room) tokens.old) result tokens.new }
     {
@@ -434,7 +434,7 @@ impl Grammar<'_> {
 
     /// What stands after the word `struct`.
     #[cycle(expression)]
-    #[tactic(auto, unfolding(sa_syntax::specs::ReadExpr::struct_or_tag))]
+    #[tactic(auto, using(crate::proofs::Fronts::tagged_seen), unfolding(sa_syntax::specs::ReadExpr::struct_or_tag))]
     fn struct_or_tag(&self, tokens: &mut Tokens<'_>, room: usize) -> Result<Base, Stop>
         ensures { Reads (read.struct_or_tag self.now.names.now room (inside self.now.names.now room) tokens.old) result tokens.new }
     {
