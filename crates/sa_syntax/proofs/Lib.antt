@@ -5,3 +5,15 @@ pub mod ExprRoom
 pub mod StmtSound
 pub mod UnitSound
 pub mod StmtRoom
+pub mod Shorter
+pub mod Front
+pub mod ReadSteps
+pub mod ExprComplete
+pub mod StmtShorter
+pub mod StmtFront
+pub mod StmtSteps
+pub mod PartsComplete
+pub mod BodySteps
+pub mod StmtComplete
+pub mod UnitComplete
+pub mod Samples

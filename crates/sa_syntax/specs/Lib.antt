@@ -6,3 +6,5 @@ pub mod Reading
 pub mod ReadExpr
 pub mod ReadStmt
 pub mod SoundLaws
+pub mod ExprLaws
+pub mod StmtLaws
