@@ -1,6 +1,6 @@
 -- What is read by the first token: an operand, and what stands after `struct`.
 use Rattle.std.proofs.Common.{◌≡◌, ℕ, List, [], ◌∷◌, refl, Bool, true, false, cond}
-use Rattle.std.specs.Prelude.{Option, Some, None, if◌then◌else◌}
+use Rattle.std.specs.Prelude.{Option, Some, None, ◌&&◌, if◌then◌else◌}
 use Rattle.sa_base.specs.declared.pos.Pos.{Pos}
 use Rattle.sa_tokens.specs.declared.punct.Punct.{Punct}
 use Rattle.sa_tokens.specs.declared.token.Word.{Word}
@@ -14,6 +14,7 @@ use Rattle.sa_syntax.specs.declared.decl.Base.{Base}
 use Rattle.sa_syntax.specs.declared.decl.Base.TheVariants as b
 use Rattle.sa_syntax.specs.Reading.{Read, Got, Parser, and_then, taken, sees, any_name, mark_at, name_at}
 use Rattle.sa_syntax.specs.ReadExpr.{Inner, is_some, unary, unary_mark, a_place, body, tagged, struct_or_tag}
+use Rattle.sa_syntax.specs.ReadStmt.{is_some_and}
 use Rattle.sa_parser.specs.Cursor.{number_at, number}
 
 abbrev pub seen_by : Names → ℕ → Inner → Option Punct → Bool → Parser Expr
@@ -45,3 +46,8 @@ pub tagged_seen : (ns : Names) (n : ℕ) (inner : Inner) (ts : List Token) → i
     struct_or_tag ns n inner ts ≡ and_then (any_name ts) (tag_or_body ns n inner)
 unfolding struct_or_tag any_name
 tagged_seen ns n inner ts h = tagged_by ns n inner ts (name_at ts) h
+
+-- ---- two tokens
+pub both_seen : {A : Type 0} (o : Option A) (b : Bool) → is_some_and o b ≡ (is_some o && b)
+both_seen None b = refl
+both_seen (Some x) b = refl

@@ -1,2 +1,4 @@
 pub mod Outcome
 pub mod Cursor
+pub mod Parts
+pub mod Faults

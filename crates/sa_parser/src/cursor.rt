@@ -7,6 +7,7 @@ ghost use Rattle.sa_syntax.specs.Trees as tree;
 ghost use Rattle.sa_syntax.specs.ReadExpr as read;
 ghost use Rattle.sa_syntax.specs.ReadStmt as stmt;
 ghost use Rattle.sa_parser.specs.Cursor as cursor;
+ghost use Rattle.sa_parser.specs.Parts as parts;
 ghost use Rattle.sa_parser.specs.Outcome.{Reads};
 
 use crate::fault::Stop;
@@ -306,6 +307,115 @@ impl<'a> Tokens<'a> {
             ] => Some((*value, *unsigned, *longs, *decimal)),
             _ => None,
         }
+    }
+
+    /// Whether a star comes next.
+    pub fn sees_star(&self) -> bool
+        ensures { result ≡ words.begins_with_star self.now }
+    {
+        matches!(
+            self.rest,
+            [
+                Token {
+                    word: Word::Mark(Punct::Star),
+                    ..
+                },
+                ..
+            ]
+        )
+    }
+
+    /// Whether `else` comes next.
+    pub fn sees_else(&self) -> bool
+        ensures { result ≡ words.begins_with_else self.now }
+    {
+        matches!(
+            self.rest,
+            [
+                Token {
+                    word: Word::Key(Keyword::Else),
+                    ..
+                },
+                ..
+            ]
+        )
+    }
+
+    /// Whether a label of a switch comes next.
+    pub fn sees_label(&self) -> bool
+        ensures { result ≡ words.begins_with_label self.now }
+    {
+        matches!(
+            self.rest,
+            [
+                Token {
+                    word: Word::Key(Keyword::Case | Keyword::Default),
+                    ..
+                },
+                ..
+            ]
+        )
+    }
+
+    /// Whether `void` and `)` come next.
+    #[tactic(auto, unfolding(sa_syntax::specs::Words::is_void_alone))]
+    pub fn sees_void_alone(&self) -> bool
+        ensures { result ≡ words.is_void_alone self.now }
+    {
+        matches!(
+            self.rest,
+            [
+                Token {
+                    word: Word::Key(Keyword::Void),
+                    ..
+                },
+                Token {
+                    word: Word::Mark(Punct::CloseParen),
+                    ..
+                },
+                ..
+            ]
+        )
+    }
+
+    /// Whether a name that is no type name comes next.
+    #[tactic(auto, unfolding(sa_syntax::specs::Reading::name_at))]
+    pub fn sees_variable(&self, names: &TypeNames) -> bool
+        ensures { result ≡ read.is_some (spec.unless_type names.now (spec.name_at self.now)) }
+    {
+        match self.rest {
+            [
+                Token {
+                    word: Word::Name(text),
+                    ..
+                },
+                ..
+            ] => !names.contains(text.bytes()),
+            _ => false,
+        }
+    }
+
+    /// Whether a name that is no type name and an opening bracket come next.
+    #[tactic(auto, using(crate::proofs::Fronts::both_seen), unfolding(sa_syntax::specs::ReadStmt::sees_call))]
+    pub fn sees_call(&self, names: &TypeNames) -> bool
+        ensures { result ≡ stmt.sees_call names.now self.now }
+    {
+        self.sees_variable(names) && self.sees_after(Punct::OpenParen)
+    }
+
+    /// Whether a name and an opening bracket come next.
+    #[tactic(auto, using(crate::proofs::Fronts::both_seen), unfolding(sa_syntax::specs::ReadStmt::sees_function))]
+    pub fn sees_function(&self) -> bool
+        ensures { result ≡ stmt.sees_function self.now }
+    {
+        self.sees_name() && self.sees_after(Punct::OpenParen)
+    }
+
+    /// Whether no token is left.
+    pub fn is_empty(&self) -> bool
+        ensures { result ≡ parts.is_end self.now }
+    {
+        self.rest.is_empty()
     }
 
     /// Whether this mark comes after the next token.

@@ -8,6 +8,7 @@ mod cursor;
 mod expr;
 mod fault;
 mod names;
+mod parts;
 mod words;
 
 pub use fault::ParseFault;

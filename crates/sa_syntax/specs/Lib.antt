@@ -8,3 +8,4 @@ pub mod ReadStmt
 pub mod SoundLaws
 pub mod ExprLaws
 pub mod StmtLaws
+pub mod Refusals
