@@ -9,6 +9,7 @@ mod expr;
 mod fault;
 mod names;
 mod parts;
+mod stmt;
 mod words;
 
 pub use fault::ParseFault;
