@@ -1,0 +1,9 @@
+pub mod NumberLemmas
+pub mod UntilLemmas
+pub mod PosLemmas
+pub mod PieceLemmas
+pub mod ReadingLemmas
+pub mod LexerLemmas
+pub mod LongestLaws
+pub mod EndLaws
+pub mod PlaceLaws
