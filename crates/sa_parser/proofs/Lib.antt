@@ -1,3 +1,4 @@
+pub mod Directives
 pub mod Fronts
 pub mod Rooms
 pub mod Turns

@@ -4,7 +4,7 @@ use Rattle.sa_tokens.specs.declared.token.Token.{Token}
 use Rattle.sa_syntax.specs.Words.{Names}
 use Rattle.sa_syntax.specs.Reading.{Parser, Read}
 use Rattle.sa_syntax.specs.ReadExpr.{Inner, inside, layer}
-use Rattle.sa_syntax.specs.ReadStmt.{within, init_at, init_by, Bodies, bodies, stmt, block_items, groups, expr}
+use Rattle.sa_syntax.specs.ReadStmt.{within, init_at, init_by, bodies, stmt, block_items, groups, no_stmt}
 
 inside_at : (ns : Names) (n : ℕ) → inside ns (suc n) ≡ layer ns n (inside ns n)
 unfolding inside
@@ -26,3 +26,15 @@ init_by_cases ns (suc n) = refl
 
 pub init_here : (ns : Names) (n : ℕ) (ts : List Token) → init_at ns n ts ≡ init_by ns n (within (init_at ns) n) ts
 init_here ns n ts = ap (λ (p : Parser _). p ts) (init_by_cases ns n)
+
+bodies_at : (ns : Names) (n : ℕ) → bodies ns (suc n) ≡ record { stmt = stmt ns n (bodies ns n); items = block_items ns n (bodies ns n) (bodies ns n).stmt; groups = groups ns n (bodies ns n) }
+unfolding bodies
+bodies_at ns n = refl
+
+pub bodies_deeper : (ns : Names) (n : ℕ) → 1 ≤ n →
+    bodies ns n ≡ record { stmt = stmt ns (n - 1) (bodies ns (n - 1)); items = block_items ns (n - 1) (bodies ns (n - 1)) (bodies ns (n - 1)).stmt; groups = groups ns (n - 1) (bodies ns (n - 1)) }
+bodies_deeper ns n some = let e : n ≡ suc (n - 1) = omega arith in ap (bodies ns) e ∙ bodies_at ns (n - 1)
+
+pub bodies_none : (ns : Names) (n : ℕ) → n ≡ 0 → (bodies ns n).stmt ≡ no_stmt ns
+unfolding bodies
+bodies_none ns n e = ap (λ n. (bodies ns n).stmt) e

@@ -1,5 +1,5 @@
 -- Parts of statements that the parser has functions of its own for.
-use Rattle.std.specs.Prelude.{ℕ, ◌-◌, ◌&&◌, not, if◌then◌else◌, List, [], ◌∷◌, Bool, true, false, Option, Some, None}
+use Rattle.std.specs.Prelude.{ℕ, ◌&&◌, not, if◌then◌else◌, List, [], ◌∷◌, Bool, true, false, Option, Some, None}
 use Rattle.sa_tokens.specs.declared.token.Token.{Token}
 use Rattle.sa_tokens.specs.declared.punct.Punct.TheVariants as m
 use Rattle.sa_syntax.specs.declared.expr.Expr.{Expr}
@@ -13,25 +13,16 @@ use Rattle.sa_syntax.specs.declared.stmt.Stmt.{Stmt}
 use Rattle.sa_syntax.specs.declared.stmt.Stmt.TheVariants as s
 use Rattle.sa_syntax.specs.Trees.{pos_of}
 use Rattle.sa_syntax.specs.Words.{Names, begins_with_label, begins_with_star}
-use Rattle.sa_syntax.specs.Reading.{Parser, ◌>>=◌, ◌>>◌, pure, refuse, opens, expect, sees, after, key_at}
-use Rattle.sa_syntax.specs.ReadStmt.{takes, expr, place, simple, call, assigned, sees_call, expr_before}
-
-abbrev pub open_twice : ℕ → Parser (Unit {0})
-open_twice n = opens n m.OpenParen >> opens (n - 1) m.OpenParen >> pure tt
-
-abbrev pub close_twice : Parser (Unit {0})
-close_twice = expect m.CloseParen >> expect m.CloseParen >> pure tt
+use Rattle.sa_syntax.specs.Reading.{Parser, ◌>>=◌, ◌>>◌, pure, refuse, expect, sees, after, key_at}
+use Rattle.sa_syntax.specs.ReadStmt.{takes, within, double_bracket, expr, place, simple, call, assigned, sees_call, expr_before}
 
 -- a directive's word and two pairs of brackets
 abbrev pub nothing : ℕ → Parser (Unit {0})
-nothing n = takes >> open_twice n >> close_twice
+nothing n = takes >> double_bracket n (pure tt)
 
 -- the same with an expression in the brackets
 abbrev pub fact : Names → ℕ → Parser Expr
-fact ns n = takes >> open_twice n >> (do
-  a ← expr ns (n - 2)
-  close_twice
-  pure a)
+fact ns n = takes >> double_bracket n (within (within (λ n. expr ns n)) n)
 
 abbrev pub is_end : List Token → Bool
 is_end [] = true

@@ -37,22 +37,8 @@ pub fn empty_brackets(tokens: &mut Tokens<'_>, room: usize) -> Result<(), Stop>
     ensures { Reads (parts.nothing room tokens.old) result tokens.new }
 {
     tokens.take()?;
-    open_twice(tokens, room)?;
-    close_twice(tokens)
-}
-
-fn open_twice(tokens: &mut Tokens<'_>, room: usize) -> Result<(), Stop>
-    ensures reads { Reads (parts.open_twice room tokens.old) result tokens.new }
-    ensures some { IfOk result (λ _. 2 ≤ room) }
-{
     tokens.opens(room, Punct::OpenParen)?;
     tokens.opens(room - 1, Punct::OpenParen)?;
-    Ok(())
-}
-
-fn close_twice(tokens: &mut Tokens<'_>) -> Result<(), Stop>
-    ensures { Reads (parts.close_twice tokens.old) result tokens.new }
-{
     tokens.expect(Punct::CloseParen)?;
     tokens.expect(Punct::CloseParen)?;
     Ok(())
@@ -330,13 +316,16 @@ impl Grammar<'_> {
     // ---- brackets
 
     /// The expression of a directive in its two pairs of brackets, from the directive's word on.
+    #[tactic(auto, using(crate::proofs::Rooms::within_twice), unfolding(sa_syntax::specs::ReadStmt::double_bracket))]
     pub fn fact(&self, tokens: &mut Tokens<'_>, room: usize) -> Result<Expr, Stop>
         ensures { Reads (parts.fact self.now.names.now room tokens.old) result tokens.new }
     {
         tokens.take()?;
-        open_twice(tokens, room)?;
+        tokens.opens(room, Punct::OpenParen)?;
+        tokens.opens(room - 1, Punct::OpenParen)?;
         let fact = self.whole(tokens, room - 2)?;
-        close_twice(tokens)?;
+        tokens.expect(Punct::CloseParen)?;
+        tokens.expect(Punct::CloseParen)?;
         Ok(fact)
     }
 

@@ -296,4 +296,212 @@ impl Grammar<'_> {
         let simple = self.simple(tokens, room)?;
         Ok(First::Simple(simple))
     }
+
+    // ---- statements
+
+    /// A statement.
+    #[cycle(statement)]
+    #[tactic(auto, using(crate::proofs::Directives::wait_is, crate::proofs::Directives::partition_is, crate::proofs::Directives::known_fact_is, crate::proofs::Directives::assert_is, crate::proofs::Directives::break_is, crate::proofs::Directives::return_is), unfolding(sa_syntax::specs::ReadStmt::stmt, sa_syntax::specs::ReadStmt::empty, sa_syntax::specs::ReadStmt::placed, sa_syntax::specs::ReadStmt::call_stmt, sa_syntax::specs::ReadStmt::assigned_stmt, sa_syntax::specs::ReadStmt::gives, sa_syntax::specs::ReadStmt::simple_ended))]
+    pub fn stmt(&self, tokens: &mut Tokens<'_>, room: usize) -> Result<Stmt, Stop>
+        ensures { Reads (stmt.stmt self.now.names.now room (bodies self.now.names.now room) tokens.old) result tokens.new }
+    {
+        match tokens.key() {
+            None => self.marked_stmt(tokens, room),
+            Some(Keyword::If) => self.if_stmt(tokens, room),
+            Some(Keyword::While) => self.while_stmt(tokens, room),
+            Some(Keyword::Do) => self.do_stmt(tokens, room),
+            Some(Keyword::For) => self.for_stmt(tokens, room),
+            Some(Keyword::Switch) => self.switch_stmt(tokens, room),
+            Some(Keyword::Break) => break_stmt(tokens),
+            Some(Keyword::Return) => self.return_stmt(tokens, room),
+            Some(Keyword::WaitForClock) => wait(tokens, room),
+            Some(Keyword::Partition) => partition(tokens, room),
+            Some(Keyword::KnownFact) => self.known_fact(tokens, room),
+            Some(Keyword::Assert) => self.assert(tokens, room),
+            Some(_) => Err(Stop::Syntax),
+        }
+    }
+
+    /// A statement that begins with no keyword.
+    #[cycle(statement)]
+    #[tactic(auto, unfolding(sa_syntax::specs::ReadStmt::empty, sa_syntax::specs::ReadStmt::placed, sa_syntax::specs::ReadStmt::call_stmt, sa_syntax::specs::ReadStmt::assigned_stmt, sa_syntax::specs::ReadStmt::gives, sa_syntax::specs::ReadStmt::simple_ended))]
+    fn marked_stmt(&self, tokens: &mut Tokens<'_>, room: usize) -> Result<Stmt, Stop>
+        ensures { Reads (stmt.mark_stmt self.now.names.now room (bodies self.now.names.now room) (spec.mark_at tokens.old) tokens.old) result tokens.new }
+    {
+        match tokens.mark() {
+            Some(Punct::OpenBrace) => self.block(tokens, room),
+            Some(Punct::Semicolon) => empty(tokens),
+            Some(Punct::PlusPlus) => self.simple_stmt(tokens, room),
+            Some(Punct::MinusMinus) => self.simple_stmt(tokens, room),
+            _ => self.placed(tokens, room),
+        }
+    }
+
+    /// A statement in a statement.
+    #[cycle(statement)]
+    #[tactic(auto, using(crate::proofs::Rooms::bodies_deeper, crate::proofs::Rooms::bodies_none))]
+    fn inner(&self, tokens: &mut Tokens<'_>, room: usize) -> Result<Stmt, Stop>
+        ensures { Reads ((bodies self.now.names.now room).stmt tokens.old) result tokens.new }
+    {
+        if room > 0 {
+            return self.stmt(tokens, room - 1);
+        }
+        if self.begins_stmt(tokens) {
+            Err(Stop::TooDeep)
+        } else {
+            Err(Stop::Syntax)
+        }
+    }
+
+    #[cycle(statement)]
+    #[tactic(auto, using(crate::proofs::Rooms::bodies_deeper), unfolding(sa_syntax::specs::ReadStmt::block))]
+    fn block(&self, tokens: &mut Tokens<'_>, room: usize) -> Result<Stmt, Stop>
+        ensures { Reads (stmt.block self.now.names.now room (bodies self.now.names.now room) tokens.old) result tokens.new }
+    {
+        let open = tokens.opens(room, Punct::OpenBrace)?;
+        let items = self.nested(tokens, room - 1)?;
+        let close = tokens.expect(Punct::CloseBrace)?;
+        Ok(Stmt::Block(Block { open, items, close }))
+    }
+
+    /// What stands in the braces of a statement.
+    #[cycle(statement)]
+    #[tactic(auto, unfolding(sa_syntax::specs::ReadStmt::block_items))]
+    fn nested(&self, tokens: &mut Tokens<'_>, room: usize) -> Result<Items<BlockItem>, Stop>
+        ensures { Reads (stmt.block_items self.now.names.now room (bodies self.now.names.now room) ((bodies self.now.names.now room).stmt) tokens.old) result tokens.new }
+    {
+        let mut found = Items::new(self.alloc);
+        for _turn in 0..tokens.turns() {
+            if tokens.sees(Punct::CloseBrace) {
+                return Ok(found);
+            }
+            found.push(self.nested_item(tokens, room)?)?;
+        }
+        Err(Stop::Syntax)
+    }
+
+    #[cycle(statement)]
+    #[tactic(auto, unfolding(sa_syntax::specs::ReadStmt::block_item))]
+    fn nested_item(&self, tokens: &mut Tokens<'_>, room: usize) -> Result<BlockItem, Stop>
+        ensures { Reads (stmt.block_item self.now.names.now room (bodies self.now.names.now room) ((bodies self.now.names.now room).stmt) tokens.old) result tokens.new }
+    {
+        if self.begins_type(tokens) {
+            let local = self.local(tokens, room)?;
+            return Ok(BlockItem::Local(local));
+        }
+        let stmt = self.inner(tokens, room)?;
+        Ok(BlockItem::Stmt(stmt))
+    }
+
+    #[cycle(statement)]
+    #[tactic(auto, unfolding(sa_syntax::specs::ReadStmt::if_stmt))]
+    fn if_stmt(&self, tokens: &mut Tokens<'_>, room: usize) -> Result<Stmt, Stop>
+        ensures { Reads (stmt.if_stmt self.now.names.now room (bodies self.now.names.now room) tokens.old) result tokens.new }
+    {
+        let pos = tokens.take()?;
+        let condition = self.condition(tokens, room)?;
+        let then = Boxed::new(self.alloc, self.inner(tokens, room)?)?;
+        if !tokens.sees_else() {
+            return Ok(Stmt::If(pos, condition, then));
+        }
+        tokens.take()?;
+        let other = Boxed::new(self.alloc, self.inner(tokens, room)?)?;
+        Ok(Stmt::IfElse(pos, condition, then, other))
+    }
+
+    #[cycle(statement)]
+    #[tactic(auto, unfolding(sa_syntax::specs::ReadStmt::while_stmt))]
+    fn while_stmt(&self, tokens: &mut Tokens<'_>, room: usize) -> Result<Stmt, Stop>
+        ensures { Reads (stmt.while_stmt self.now.names.now room (bodies self.now.names.now room) tokens.old) result tokens.new }
+    {
+        let pos = tokens.take()?;
+        let condition = self.condition(tokens, room)?;
+        let body = Boxed::new(self.alloc, self.inner(tokens, room)?)?;
+        Ok(Stmt::While(pos, condition, body))
+    }
+
+    #[cycle(statement)]
+    #[tactic(auto, unfolding(sa_syntax::specs::ReadStmt::do_stmt, sa_syntax::specs::ReadStmt::expect_while))]
+    fn do_stmt(&self, tokens: &mut Tokens<'_>, room: usize) -> Result<Stmt, Stop>
+        ensures { Reads (stmt.do_stmt self.now.names.now room (bodies self.now.names.now room) tokens.old) result tokens.new }
+    {
+        let pos = tokens.take()?;
+        let body = Boxed::new(self.alloc, self.inner(tokens, room)?)?;
+        expect_while(tokens)?;
+        let condition = self.condition(tokens, room)?;
+        tokens.expect(Punct::Semicolon)?;
+        Ok(Stmt::DoWhile(pos, body, condition))
+    }
+
+    #[cycle(statement)]
+    #[tactic(auto, using(crate::proofs::Rooms::within_deeper), unfolding(sa_syntax::specs::ReadStmt::for_stmt))]
+    fn for_stmt(&self, tokens: &mut Tokens<'_>, room: usize) -> Result<Stmt, Stop>
+        ensures { Reads (stmt.for_stmt self.now.names.now room (bodies self.now.names.now room) tokens.old) result tokens.new }
+    {
+        let pos = tokens.take()?;
+        tokens.opens(room, Punct::OpenParen)?;
+        let first = self.first(tokens, room - 1)?;
+        tokens.expect(Punct::Semicolon)?;
+        let condition = self.expr_before(tokens, room - 1, Punct::Semicolon)?;
+        tokens.expect(Punct::Semicolon)?;
+        let next = self.simple_before(tokens, room - 1, Punct::CloseParen)?;
+        tokens.expect(Punct::CloseParen)?;
+        let body = Boxed::new(self.alloc, self.inner(tokens, room)?)?;
+        Ok(Stmt::For(pos, first, condition, next, body))
+    }
+
+    #[cycle(statement)]
+    #[tactic(auto, using(crate::proofs::Rooms::bodies_deeper), unfolding(sa_syntax::specs::ReadStmt::switch_stmt))]
+    fn switch_stmt(&self, tokens: &mut Tokens<'_>, room: usize) -> Result<Stmt, Stop>
+        ensures { Reads (stmt.switch_stmt self.now.names.now room (bodies self.now.names.now room) tokens.old) result tokens.new }
+    {
+        let pos = tokens.take()?;
+        let value = self.condition(tokens, room)?;
+        tokens.opens(room, Punct::OpenBrace)?;
+        let groups = self.groups(tokens, room - 1)?;
+        tokens.expect(Punct::CloseBrace)?;
+        Ok(Stmt::Switch(pos, value, groups))
+    }
+
+    #[cycle(statement)]
+    #[tactic(auto, unfolding(sa_syntax::specs::ReadStmt::groups))]
+    fn groups(&self, tokens: &mut Tokens<'_>, room: usize) -> Result<Items<Group>, Stop>
+        ensures { Reads (stmt.groups self.now.names.now room (bodies self.now.names.now room) tokens.old) result tokens.new }
+    {
+        let mut found = Items::new(self.alloc);
+        for _turn in 0..tokens.turns() {
+            if !tokens.sees_label() {
+                return Ok(found);
+            }
+            found.push(self.group(tokens, room)?)?;
+        }
+        Err(Stop::Syntax)
+    }
+
+    #[cycle(statement)]
+    #[tactic(auto, unfolding(sa_syntax::specs::ReadStmt::a_group))]
+    fn group(&self, tokens: &mut Tokens<'_>, room: usize) -> Result<Group, Stop>
+        ensures { Reads (stmt.a_group self.now.names.now room (bodies self.now.names.now room) tokens.old) result tokens.new }
+    {
+        let mut labels = Items::new(self.alloc);
+        labels.push(self.label(tokens, room)?)?;
+        labels.append(self.labels(tokens, room)?)?;
+        let body = self.body_of_group(tokens, room)?;
+        Ok(Group { labels, body })
+    }
+
+    /// The statements up to the next label or the closing brace.
+    #[cycle(statement)]
+    fn body_of_group(&self, tokens: &mut Tokens<'_>, room: usize) -> Result<Items<Stmt>, Stop>
+        ensures { Reads (spec.many parts.goes_on ((bodies self.now.names.now room).stmt) tokens.old) result tokens.new }
+    {
+        let mut found = Items::new(self.alloc);
+        for _turn in 0..tokens.turns() {
+            if !goes_on(tokens) {
+                return Ok(found);
+            }
+            found.push(self.inner(tokens, room)?)?;
+        }
+        Err(Stop::Syntax)
+    }
 }
