@@ -14,7 +14,10 @@ use Rattle.sa_syntax.specs.declared.decl.Base.{Base}
 use Rattle.sa_syntax.specs.declared.decl.Base.TheVariants as b
 use Rattle.sa_syntax.specs.Reading.{Read, Got, Parser, and_then, taken, sees, any_name, mark_at, name_at}
 use Rattle.sa_syntax.specs.ReadExpr.{Inner, is_some, unary, unary_mark, a_place, body, tagged, struct_or_tag}
-use Rattle.sa_syntax.specs.ReadStmt.{is_some_and}
+use Rattle.sa_syntax.specs.declared.decl.Qualified.{Qualified}
+use Rattle.sa_syntax.specs.declared.decl.Struct.{Struct}
+use Rattle.sa_parser.specs.Parts.{is_some as some_struct}
+use Rattle.sa_syntax.specs.ReadStmt.{is_some_and, if_bare}
 use Rattle.sa_parser.specs.Cursor.{number_at, number}
 
 abbrev pub seen_by : Names → ℕ → Inner → Option Punct → Bool → Parser Expr
@@ -51,3 +54,8 @@ tagged_seen ns n inner ts h = tagged_by ns n inner ts (name_at ts) h
 pub both_seen : {A : Type 0} (o : Option A) (b : Bool) → is_some_and o b ≡ (is_some o && b)
 both_seen None b = refl
 both_seen (Some x) b = refl
+
+-- ---- a type that is a struct alone has no qualifiers
+pub struct_bare : (qs : List Qualified) (x : Option Struct) → some_struct (if_bare qs x) ≡ true → if_bare qs x ≡ x
+struct_bare [] x h = refl
+struct_bare (q ∷ qs) x h = cc

@@ -11,10 +11,20 @@ use Rattle.sa_syntax.specs.declared.stmt.Simple.{Simple}
 use Rattle.sa_syntax.specs.declared.stmt.Directive.TheVariants as d
 use Rattle.sa_syntax.specs.declared.stmt.Stmt.{Stmt}
 use Rattle.sa_syntax.specs.declared.stmt.Stmt.TheVariants as s
+use Rattle.sa_syntax.specs.declared.stmt.BlockItem.{BlockItem}
+use Rattle.sa_syntax.specs.declared.stmt.Block.{Block}
+use Rattle.sa_syntax.specs.declared.decl.Name.{Name}
+use Rattle.sa_syntax.specs.declared.decl.Struct.{Struct}
+use Rattle.sa_syntax.specs.declared.unit.Param.{Param}
+use Rattle.sa_syntax.specs.declared.unit.Item.{Item}
+use Rattle.sa_syntax.specs.declared.unit.Item.TheVariants as top
+use Rattle.sa_syntax.specs.Trees as tree
 use Rattle.sa_syntax.specs.Trees.{pos_of}
+use Rattle.sa_syntax.specs.ReadExpr as read
+use Rattle.sa_syntax.specs.ReadStmt as stmt
 use Rattle.sa_syntax.specs.Words.{Names, begins_with_label, begins_with_star}
-use Rattle.sa_syntax.specs.Reading.{Parser, ◌>>=◌, ◌>>◌, pure, refuse, expect, sees, after, key_at}
-use Rattle.sa_syntax.specs.ReadStmt.{takes, within, double_bracket, expr, place, simple, call, assigned, sees_call, expr_before}
+use Rattle.sa_syntax.specs.Reading.{Parser, ◌>>=◌, ◌>>◌, Got, pure, refuse, expect, opens, any_name, name_at, sees, after, key_at}
+use Rattle.sa_syntax.specs.ReadStmt.{takes, within, double_bracket, outermost, bodies, specifiers, expr, place, simple, call, assigned, sees_call, expr_before}
 
 -- a directive's word and two pairs of brackets
 abbrev pub nothing : ℕ → Parser (Unit {0})
@@ -106,3 +116,25 @@ return ns n = do
   a ← expr_before ns m.Semicolon n
   expect m.Semicolon
   pure (s.Return p a)
+
+-- ---- functions
+abbrev pub is_some : {A : Type 0} → Option A → Bool
+is_some None = false
+is_some (Some _) = true
+
+abbrev pub star : Parser (Option Pos)
+star ts = if sees m.Star ts then (expect m.Star >>= (λ p. pure (Some p))) ts else Got None ts
+
+abbrev pub block_item : Names → ℕ → Parser BlockItem
+block_item ns n = stmt.block_item ns n (bodies ns n) (stmt.stmt ns n (bodies ns n))
+
+abbrev pub block : Names → ℕ → Parser Block
+block ns n = do
+  p ← opens n m.OpenBrace
+  is ← within (outermost ns) n
+  q ← expect m.CloseBrace
+  pure (tree.block p is q)
+
+abbrev pub struct_item : Pos → Option Struct → Parser Item
+struct_item p None = refuse
+struct_item p (Some x) = λ ts. Got (top.Struct p x) (after ts)

@@ -10,6 +10,7 @@ mod fault;
 mod names;
 mod parts;
 mod stmt;
+mod unit;
 mod words;
 
 pub use fault::ParseFault;
