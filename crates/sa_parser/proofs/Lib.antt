@@ -1,4 +1,6 @@
 pub mod Directives
 pub mod Fronts
+pub mod NameLemmas
 pub mod Rooms
+pub mod SourceLemmas
 pub mod Turns

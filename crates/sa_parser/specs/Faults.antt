@@ -1,8 +1,10 @@
 -- What a fault of the parser says of the tokens.
-use Rattle.std.specs.Prelude.{List, ⊤}
+use Rattle.std.specs.Prelude.{List, ⊤, Option, Some, None}
 use Rattle.sa_base.specs.declared.pos.Pos.{Pos}
 use Rattle.sa_tokens.specs.declared.token.Token.{Token}
 use Rattle.sa_syntax.specs.Refusals.{HasNoTree, IsTooDeep, IsPlaceOf}
+use Rattle.sa_parser.specs.declared.fault.Stop.{Stop}
+use Rattle.sa_parser.specs.declared.fault.Stop.TheVariants as s
 use Rattle.sa_parser.specs.declared.fault.ParseFault.{ParseFault}
 use Rattle.sa_parser.specs.declared.fault.ParseFault.TheVariants.{Syntax, TooDeep, OutOfMemory}
 
@@ -10,3 +12,13 @@ abbrev pub IsFault : List Token → Pos → ParseFault → Type 0
 IsFault ts end (Syntax p) = HasNoTree ts × IsPlaceOf end ts p
 IsFault ts end (TooDeep p) = IsTooDeep ts × IsPlaceOf end ts p
 IsFault ts end OutOfMemory = ⊤
+
+abbrev pub fault_at : Stop → Pos → ParseFault
+fault_at s.Syntax p = Syntax p
+fault_at s.TooDeep p = TooDeep p
+fault_at s.OutOfMemory p = OutOfMemory
+
+-- the place of a token, or the end
+abbrev pub place_of : Pos → Option Token → Pos
+place_of end None = end
+place_of end (Some t) = t.pos

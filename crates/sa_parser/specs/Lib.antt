@@ -2,3 +2,4 @@ pub mod Outcome
 pub mod Cursor
 pub mod Parts
 pub mod Faults
+pub mod Known

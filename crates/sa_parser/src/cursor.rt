@@ -165,6 +165,13 @@ impl<'a> Tokens<'a> {
         self.rest.len() + 1
     }
 
+    /// How many tokens are left.
+    pub fn left(&self) -> usize
+        ensures { result ≡ length self.now }
+    {
+        self.rest.len()
+    }
+
     /// The place of the token at the front.
     pub fn pos(&self) -> Pos
         ensures { result ≡ tree.pos_of self.now }

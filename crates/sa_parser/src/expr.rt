@@ -23,6 +23,7 @@ use sqlite_items::{Boxed, Items};
 use std::alloc::Global;
 
 /// The grammar at a place of the source where these are the type names.
+#[derive(Clone, Copy)]
 pub struct Grammar<'n> {
     pub alloc: Global,
     pub names: &'n TypeNames,

@@ -9,8 +9,10 @@ mod expr;
 mod fault;
 mod names;
 mod parts;
+mod source;
 mod stmt;
 mod unit;
 mod words;
 
 pub use fault::ParseFault;
+pub use source::parse;

@@ -13,12 +13,10 @@ ghost use Rattle.sa_parser.specs.Parts as parts;
 use crate::cursor::Tokens;
 use crate::expr::Grammar;
 use crate::fault::Stop;
-use crate::names::TypeNames;
-use sa_base::{OutOfMemory, Pos};
+use sa_base::Pos;
 use sa_syntax::{Base, Block, BlockItem, Item, Name, Param, Params, Specifiers};
 use sa_tokens::{Keyword, Punct};
 use sqlite_items::Items;
-use std::alloc::Global;
 
 fn has_name(param: &Param) -> bool
     ensures { result ≡ has_name param.now }
@@ -230,7 +228,7 @@ impl Grammar<'_> {
     }
 
     #[tactic(auto, unfolding(sa_syntax::specs::ReadStmt::an_item))]
-    fn item(&self, tokens: &mut Tokens<'_>, room: usize) -> Result<Item, Stop>
+    pub fn item(&self, tokens: &mut Tokens<'_>, room: usize) -> Result<Item, Stop>
         ensures { Reads (stmt.an_item self.now.names.now room tokens.old) result tokens.new }
     {
         match tokens.key() {

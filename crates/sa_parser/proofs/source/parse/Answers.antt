@@ -1,0 +1,17 @@
+use Rattle.std.proofs.Common.{rules, arith, ◌≡◌, ◌∙◌, sym, ap, List}
+use Rattle.std.proofs.lemmas.Grind.{common_steps}
+use Rattle.sa_syntax.specs.Reading.{turns}
+use Rattle.sa_syntax.specs.ReadStmt.{items_from}
+use Rattle.sa_syntax.specs.Refusals.{most_open}
+use Rattle.sa_parser.proofs.SourceLemmas.{source_got, refused, token_place}
+use Rattle.sa_parser.proofs.source.parse.Goals as goal
+
+pub returns-in-Ok-clause-ok : goal.returns-in-Ok-clause-ok
+returns-in-Ok-clause-ok c =
+    c.readings_are_sources.ensures most_open c.args.tokens.now c.items.new.tokens _ (source_got most_open c.args.tokens.now c.items.new.tokens c.in-Ok.items (first_of (search rules, grind (arith, common_steps))))
+
+pub returns-in-Err-clause-fault : goal.returns-in-Err-clause-fault
+returns-in-Err-clause-fault c =
+    rw c.fault_at.ensures (refused c.reads_sources.ensures c.more_room_reads_the_same_source.ensures c.args.tokens.now c.items.new.tokens c.args.end c.place_of.result c.in-Err.stop
+    (first_of (search rules, grind (arith, common_steps)))
+    (rw c.place_of.ensures (token_place c.args.end c.args.tokens.now c.saturating_sub-at.result)))
