@@ -11,6 +11,8 @@ mod names;
 mod parts;
 mod source;
 mod stmt;
+#[cfg(test)]
+mod tests;
 mod unit;
 mod words;
 
