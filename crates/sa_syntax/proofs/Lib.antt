@@ -16,4 +16,6 @@ pub mod PartsComplete
 pub mod BodySteps
 pub mod StmtComplete
 pub mod UnitComplete
+pub mod DeepLemmas
+pub mod DeepExpr
 pub mod Samples

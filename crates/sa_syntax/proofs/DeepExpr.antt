@@ -1,0 +1,234 @@
+-- Expressions, places and types are read the same up to a token, whatever follows it.
+use Rattle.std.proofs.Common.{◌≡◌, ℕ, zero, suc, ◌≤◌, List, [], ◌∷◌, ◌++◌, Bool, true, false, cond, refl, arith, length, Option, Some, None}
+use Rattle.sa_base.specs.declared.pos.Pos.{Pos}
+use Rattle.sa_tokens.specs.declared.keyword.Keyword.{Keyword}
+use Rattle.sa_tokens.specs.declared.keyword.Keyword.TheVariants as k
+use Rattle.sa_tokens.specs.declared.punct.Punct.{Punct}
+use Rattle.sa_tokens.specs.declared.punct.Punct.TheVariants as m
+use Rattle.sa_tokens.specs.declared.token.Word.{Word}
+use Rattle.sa_tokens.specs.declared.token.Word.TheVariants.{Name, Number, Key, Mark}
+use Rattle.sa_tokens.specs.declared.token.Token.{Token}
+use Rattle.sa_syntax.specs.declared.decl.Name.{Name as Named}
+use Rattle.sa_syntax.specs.declared.decl.Base.TheVariants as b
+use Rattle.sa_syntax.specs.declared.decl.ScalarWord.{ScalarWord}
+use Rattle.sa_syntax.specs.declared.decl.Qualifier.{Qualifier}
+use Rattle.sa_syntax.specs.declared.expr.Expr.{Expr}
+use Rattle.sa_syntax.specs.declared.expr.Expr.TheVariants as e
+use Rattle.sa_syntax.specs.declared.expr.Prefix.{Prefix}
+use Rattle.sa_syntax.specs.declared.expr.PlaceBase.TheVariants as at
+use Rattle.sa_syntax.specs.declared.expr.Step.TheVariants as step
+use Rattle.sa_syntax.specs.Trees as tree
+use Rattle.sa_syntax.specs.Words.{Names, mark, is_through, is_star, prefix_of, operator_of, loosest}
+use Rattle.sa_syntax.specs.Reading.{Parser, Read, Got, Stuck, Deep, and_then, sees, after, expect, opens_any, opens, any_name, variable, name_at, key_at, mark_at, taken, many, turns, pure, ◌>>=◌, ◌>>◌}
+use Rattle.sa_syntax.specs.ReadExpr as read
+use Rattle.sa_syntax.specs.ReadExpr.{Inner, inside}
+use Rattle.sa_syntax.proofs.DeepLemmas.{Shrinks, Local, shrink_then, shrink_cond, local_cond, Fine, Ahead, beyond, loosen, fine_then, fine_first, fine_next, fine_pure, fine_refuse, fine_ahead, fine_if, fine_after, fine_takes, fine_taken, fine_any_name, fine_variable, fine_expect, fine_opens, fine_opens_then, fine_opens_any_then, fine_many, sees_ahead, name_ahead, key_ahead, mark_ahead}
+
+-- the readers one deeper, where there is room for them
+pub record IsFine (ns : Names) (inner : Inner) : Type 0 where
+  pub whole : Fine 0 inner.whole
+  pub unary : Fine 0 inner.unary
+  pub specifiers : Fine 0 inner.specifiers
+  pub fields : Fine 0 inner.fields
+  -- behind a star comes a name
+  pub star : (p : Pos) (us ts : List Token) → Shrinks 0 ts (variable ns us) → Shrinks 0 ts (inner.whole (mark m.Star p ∷ us))
+
+-- ---- words of types
+qualified_ahead : (o : Option Qualifier) (t : Token) (r s : List Token) → read.qualified_at o (t ∷ r) ≡ read.qualified_at o (t ∷ s)
+qualified_ahead None t r s = refl
+qualified_ahead (Some q) t r s = refl
+
+qualifier_fine : Fine 1 read.qualifier
+unfolding read.qualifier key_at
+qualifier_fine = fine_taken (λ ts. read.qualified_at (read.qualifier_in (key_at ts)) ts) (λ t r s. qualified_ahead (read.qualifier_in (key_at (t ∷ r))) t r s) refl
+
+scalar_word_fine : Fine 1 read.scalar_word
+unfolding read.scalar_word key_at
+scalar_word_fine = fine_taken (λ ts. read.scalar_in (key_at ts)) (λ t r s. refl) refl
+
+operator_fine : Fine 1 read.operator
+unfolding read.operator mark_at
+operator_fine = fine_taken (λ ts. read.operator_in (mark_at ts)) (λ t r s. refl) refl
+
+pub qualifiers_fine : Fine 0 (many read.sees_qualifier read.qualifier)
+unfolding read.sees_qualifier key_at
+qualifiers_fine = fine_many read.sees_qualifier (λ t r s. refl) qualifier_fine
+
+scalars_fine : Fine 0 (many read.sees_scalar read.scalar_word)
+unfolding read.sees_scalar key_at
+scalars_fine = fine_many read.sees_scalar (λ t r s. refl) scalar_word_fine
+
+pub type_ahead : (ns : Names) → Ahead (read.begins_type ns)
+unfolding read.begins_type read.sees_qualifier read.sees_scalar key_at name_at
+type_ahead ns t r s = refl
+
+step_ahead : Ahead read.sees_step
+unfolding sees
+step_ahead t r s = refl
+
+operator_ahead : (l : ℕ) → Ahead (read.sees_operator l)
+unfolding read.sees_operator mark_at
+operator_ahead l t r s = refl
+
+place_ahead : Ahead tree.pos_of
+place_ahead t r s = refl
+
+module _ (ns : Names) (n : ℕ) (inner : Inner) (deeper : (i : ℕ) → n ≡ suc i → IsFine ns inner) where
+  -- ---- places
+  index_fine : Fine 1 (read.index ns n inner)
+  unfolding read.index
+  index_fine = fine_opens_then n m.OpenBracket (λ i e p. fine_then ((deeper i e).whole) (λ a. fine_then (fine_expect m.CloseBracket) (λ q. fine_pure (step.Index p a))))
+
+  step_by_fine : (o : Option Punct) → Fine 1 (read.step_by ns n inner o)
+  step_by_fine (Some m.OpenBracket) = index_fine
+  step_by_fine (Some m.Dot) = fine_first (fine_expect m.Dot) (λ p. fine_first fine_any_name (λ x. fine_pure (step.Field p x)))
+  step_by_fine (Some m.Arrow) = fine_first (fine_expect m.Arrow) (λ p. fine_first fine_any_name (λ x. fine_pure (step.Arrow p x)))
+  step_by_fine o = fine_refuse 1
+
+  a_step_fine : Fine 1 (read.a_step ns n inner)
+  unfolding read.a_step
+  a_step_fine = fine_ahead mark_at mark_ahead (read.step_by ns n inner) step_by_fine
+
+  pub steps_fine : Fine 0 (read.steps ns n inner)
+  unfolding read.steps
+  steps_fine = fine_many read.sees_step step_ahead a_step_fine
+
+  by_name_fine : Fine 1 (read.by_name ns n inner)
+  unfolding read.by_name
+  by_name_fine = fine_first (fine_variable ns) (λ x. fine_then steps_fine (λ ss. fine_pure (tree.place (at.Name x) ss)))
+
+  through_fine : Fine 1 (read.through ns n inner)
+  unfolding read.through
+  through_fine =
+      fine_opens_then n m.OpenParen (λ i e p.
+      fine_then (fine_expect m.Star) (λ q.
+      fine_then (fine_variable ns) (λ x.
+      fine_then (fine_expect m.CloseParen) (λ r.
+      fine_then steps_fine (λ ss.
+      fine_pure (tree.place (at.Through p q x) ss))))))
+
+  star_fine : Fine 1 (read.star ns n inner)
+  unfolding read.star
+  star_fine = fine_first (fine_expect m.Star) (λ p. fine_then (fine_variable ns) (λ x. fine_pure (tree.place (at.Star p x) [])))
+
+  place_by_fine : (o : Option Punct) → Fine 1 (read.place_by ns n inner o)
+  place_by_fine (Some m.OpenParen) = through_fine
+  place_by_fine (Some m.Star) = star_fine
+  place_by_fine o = by_name_fine
+
+  pub place_fine : Fine 1 (read.place ns n inner)
+  unfolding read.place
+  place_fine = fine_ahead mark_at mark_ahead (read.place_by ns n inner) place_by_fine
+
+  -- ---- types
+  body_fine : (tag : Option Named) → Fine 1 (read.body ns n inner tag)
+  unfolding read.body
+  body_fine tag = fine_opens_then n m.OpenBrace (λ i e p. fine_then ((deeper i e).fields) (λ fs. fine_then (fine_expect m.CloseBrace) (λ q. fine_pure (b.Struct (tree.structure tag fs)))))
+
+  type_name_fine : Fine 1 (read.type_name ns n inner)
+  unfolding read.type_name name_at
+  type_name_fine = fine_if (λ ts. read.is_type_at ns (name_at ts)) (λ t r s. refl) (fine_first fine_any_name (λ x. fine_pure (b.Named x))) (fine_refuse 1)
+
+  a_bound_fine : Fine 1 (read.a_bound ns n inner)
+  unfolding read.a_bound
+  a_bound_fine = fine_opens_then n m.OpenBracket (λ i e p. fine_then ((deeper i e).whole) (λ a. fine_then (fine_expect m.CloseBracket) (λ q. fine_pure (tree.bound p a))))
+
+  pub declr_fine : Fine 1 (read.declr ns n inner)
+  unfolding read.declr
+  declr_fine = fine_first fine_any_name (λ x. fine_then (fine_many (sees m.OpenBracket) (sees_ahead m.OpenBracket) a_bound_fine) (λ bs. fine_pure (tree.declr x bs)))
+
+  next_declr_fine : Fine 1 (read.next_declr ns n inner)
+  unfolding read.next_declr
+  next_declr_fine = fine_first (fine_expect m.Comma) (λ p. declr_fine)
+
+  pub declrs_fine : Fine 1 (read.declrs ns n inner)
+  unfolding read.declrs
+  declrs_fine = fine_first declr_fine (λ d. fine_then (fine_many (sees m.Comma) (sees_ahead m.Comma) next_declr_fine) (λ ds. fine_pure (d ∷ ds)))
+
+  tagged_fine : (o : Option Named) → Fine 0 (read.tagged ns n inner o)
+  tagged_fine None = loosen (body_fine None)
+  tagged_fine (Some x) = fine_after (fine_if (sees m.OpenBrace) (sees_ahead m.OpenBrace) (loosen (body_fine (Some x))) (fine_pure (b.Tag x)))
+
+  struct_or_tag_fine : Fine 0 (read.struct_or_tag ns n inner)
+  unfolding read.struct_or_tag
+  struct_or_tag_fine = fine_ahead name_at name_ahead (read.tagged ns n inner) tagged_fine
+
+  scalars_base_fine : Fine 0 (read.scalar_word >>= (λ w. many read.sees_scalar read.scalar_word >>= (λ ws. pure (b.Scalar (w ∷ ws)))))
+  scalars_base_fine = fine_then scalar_word_fine (λ w. fine_then scalars_fine (λ ws. fine_pure (b.Scalar (w ∷ ws))))
+
+  base_by_fine : (o : Option Keyword) → Fine 0 (read.base_by ns n inner o)
+  base_by_fine (Some k.Void) = fine_after (fine_pure b.Void)
+  base_by_fine (Some k.Struct) = fine_after struct_or_tag_fine
+  base_by_fine (Some w) = scalars_base_fine
+  base_by_fine None = loosen type_name_fine
+
+  base_fine : Fine 0 (read.base ns n inner)
+  unfolding read.base
+  base_fine = fine_ahead key_at key_ahead (read.base_by ns n inner) base_by_fine
+
+  pub specifiers_fine : Fine 0 (read.specifiers ns n inner)
+  unfolding read.specifiers
+  specifiers_fine = fine_ahead tree.pos_of place_ahead (λ p. many read.sees_qualifier read.qualifier >>= (λ qs. read.base ns n inner >>= (λ t. pure (tree.specifiers p qs t))))
+      (λ p. fine_then qualifiers_fine (λ qs. fine_then base_fine (λ t. fine_pure (tree.specifiers p qs t))))
+
+  field_fine : Fine 1 (read.field ns n inner)
+  unfolding read.field
+  field_fine = fine_next specifiers_fine (λ t. fine_first declrs_fine (λ ds. fine_first (fine_expect m.Semicolon) (λ p. fine_pure (tree.field t ds))))
+
+  no_brace_ahead : Ahead (read.no_brace ns n inner)
+  unfolding sees
+  no_brace_ahead t r s = refl
+
+  pub fields_fine : Fine 0 (read.fields ns n inner)
+  unfolding read.fields
+  fields_fine = fine_then field_fine (λ f. fine_then (fine_many (read.no_brace ns n inner) no_brace_ahead field_fine) (λ fs. fine_pure (f ∷ fs)))
+
+  -- ---- expressions
+  a_place_fine : Fine 1 (read.a_place ns n inner)
+  unfolding read.a_place
+  a_place_fine = fine_first place_fine (λ x. fine_pure (e.Place x))
+
+  cast_fine : Fine 1 (read.cast ns n inner)
+  unfolding read.cast
+  cast_fine =
+      fine_opens_then n m.OpenParen (λ i e p.
+      fine_then ((deeper i e).specifiers) (λ t.
+      fine_then (fine_expect m.CloseParen) (λ q.
+      fine_then ((deeper i e).unary) (λ a.
+      fine_pure (e.Cast p t a)))))
+
+  bracket_fine : Fine 1 (read.bracket ns n inner)
+  unfolding read.bracket
+  bracket_fine = fine_opens_then n m.OpenParen (λ i e p. fine_then ((deeper i e).whole) (λ a. fine_then (fine_expect m.CloseParen) (λ q. fine_pure (e.Bracket p a))))
+
+  prefixed_fine : (op : Prefix) → Fine 1 (read.prefixed ns n inner op)
+  unfolding read.prefixed
+  prefixed_fine op = fine_opens_any_then n (λ i e p. fine_then ((deeper i e).unary) (λ a. fine_pure (e.Prefix op p a)))
+
+  prefix_by_fine : (o : Option Prefix) → Fine 1 (read.prefix_by ns n inner o)
+  prefix_by_fine None = fine_refuse 1
+  prefix_by_fine (Some op) = prefixed_fine op
+
+  bracketed_shrinks : (ts : List Token) → Shrinks 1 ts (read.bracketed ns n inner ts)
+  unfolding read.bracketed
+  bracketed_shrinks ts = shrink_cond (is_through (after ts)) (a_place_fine.shrinks ts) (shrink_cond (read.begins_type ns (after ts)) (cast_fine.shrinks ts) (bracket_fine.shrinks ts))
+
+  choice_fine : (c : Expr) → Fine 1 (read.choice ns n inner c)
+  unfolding read.choice
+  choice_fine c =
+      fine_opens_then n m.Question (λ i e p.
+      fine_then ((deeper i e).whole) (λ a.
+      fine_then (fine_expect m.Colon) (λ q.
+      fine_then ((deeper i e).whole) (λ f.
+      fine_pure (e.Choice c p a f)))))
+
+  choice_or_fine : (c : Expr) → Fine 0 (read.choice_or ns n inner c)
+  choice_or_fine c = fine_if (sees m.Question) (sees_ahead m.Question) (loosen (choice_fine c)) (fine_pure c)
+
+  a_link_fine : (operand : Parser Expr) → Fine 0 operand → Fine 1 (read.a_link ns n inner operand)
+  unfolding read.a_link
+  a_link_fine operand one = fine_ahead tree.pos_of place_ahead (λ p. read.operator >>= (λ op. operand >>= (λ a. pure (tree.link op p a))))
+      (λ p. fine_first operator_fine (λ op. fine_then one (λ a. fine_pure (tree.link op p a))))
+
+  links_fine : (l : ℕ) (operand : Parser Expr) → Fine 0 operand → (a : Expr) → Fine 0 (many (read.sees_operator (suc l)) (read.a_link ns n inner operand) >>= (λ xs. pure (read.chained a xs)))
+  links_fine l operand one a = fine_then (fine_many (read.sees_operator (suc l)) (operator_ahead (suc l)) (a_link_fine operand one)) (λ xs. fine_pure (read.chained a xs))
