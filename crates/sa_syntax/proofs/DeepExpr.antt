@@ -18,11 +18,11 @@ use Rattle.sa_syntax.specs.declared.expr.Prefix.{Prefix}
 use Rattle.sa_syntax.specs.declared.expr.PlaceBase.TheVariants as at
 use Rattle.sa_syntax.specs.declared.expr.Step.TheVariants as step
 use Rattle.sa_syntax.specs.Trees as tree
-use Rattle.sa_syntax.specs.Words.{Names, mark, is_through, is_star, prefix_of, operator_of, loosest}
-use Rattle.sa_syntax.specs.Reading.{Parser, Read, Got, Stuck, Deep, and_then, sees, after, expect, opens_any, opens, any_name, variable, name_at, key_at, mark_at, taken, many, turns, pure, ◌>>=◌, ◌>>◌}
+use Rattle.sa_syntax.specs.Words.{Names, mark, word, literal, is_through, prefix_of, operator_of, loosest}
+use Rattle.sa_syntax.specs.Reading.{Parser, Read, Got, Stuck, Deep, and_then, same_mark, sees, after, expect, opens_any, opens, any_name, variable, name_at, key_at, mark_at, taken, many, turns, pure, ◌>>=◌, ◌>>◌}
 use Rattle.sa_syntax.specs.ReadExpr as read
 use Rattle.sa_syntax.specs.ReadExpr.{Inner, inside}
-use Rattle.sa_syntax.proofs.DeepLemmas.{Shrinks, Local, shrink_then, shrink_cond, local_cond, Fine, Ahead, beyond, loosen, fine_then, fine_first, fine_next, fine_pure, fine_refuse, fine_ahead, fine_if, fine_after, fine_takes, fine_taken, fine_any_name, fine_variable, fine_expect, fine_opens, fine_opens_then, fine_opens_any_then, fine_many, sees_ahead, name_ahead, key_ahead, mark_ahead}
+use Rattle.sa_syntax.proofs.DeepLemmas.{Shrinks, Local, shrink_then, shrink_cond, local_cond, same_first, variable_gone, loosen_read, Fine, Ahead, beyond, loosen, fine_then, fine_first, fine_next, fine_pure, fine_refuse, fine_ahead, fine_if, fine_after, fine_takes, fine_taken, fine_any_name, fine_variable, fine_expect, fine_opens, fine_opens_then, fine_opens_any_then, fine_many, sees_ahead, name_ahead, key_ahead, mark_ahead}
 
 -- the readers one deeper, where there is room for them
 pub record IsFine (ns : Names) (inner : Inner) : Type 0 where
@@ -77,7 +77,7 @@ module _ (ns : Names) (n : ℕ) (inner : Inner) (deeper : (i : ℕ) → n ≡ su
   -- ---- places
   index_fine : Fine 1 (read.index ns n inner)
   unfolding read.index
-  index_fine = fine_opens_then n m.OpenBracket (λ i e p. fine_then ((deeper i e).whole) (λ a. fine_then (fine_expect m.CloseBracket) (λ q. fine_pure (step.Index p a))))
+  index_fine = fine_opens_then n m.OpenBracket (λ i h p. fine_then ((deeper i h).whole) (λ a. fine_then (fine_expect m.CloseBracket) (λ q. fine_pure (step.Index p a))))
 
   step_by_fine : (o : Option Punct) → Fine 1 (read.step_by ns n inner o)
   step_by_fine (Some m.OpenBracket) = index_fine
@@ -100,7 +100,7 @@ module _ (ns : Names) (n : ℕ) (inner : Inner) (deeper : (i : ℕ) → n ≡ su
   through_fine : Fine 1 (read.through ns n inner)
   unfolding read.through
   through_fine =
-      fine_opens_then n m.OpenParen (λ i e p.
+      fine_opens_then n m.OpenParen (λ i h p.
       fine_then (fine_expect m.Star) (λ q.
       fine_then (fine_variable ns) (λ x.
       fine_then (fine_expect m.CloseParen) (λ r.
@@ -123,7 +123,7 @@ module _ (ns : Names) (n : ℕ) (inner : Inner) (deeper : (i : ℕ) → n ≡ su
   -- ---- types
   body_fine : (tag : Option Named) → Fine 1 (read.body ns n inner tag)
   unfolding read.body
-  body_fine tag = fine_opens_then n m.OpenBrace (λ i e p. fine_then ((deeper i e).fields) (λ fs. fine_then (fine_expect m.CloseBrace) (λ q. fine_pure (b.Struct (tree.structure tag fs)))))
+  body_fine tag = fine_opens_then n m.OpenBrace (λ i h p. fine_then ((deeper i h).fields) (λ fs. fine_then (fine_expect m.CloseBrace) (λ q. fine_pure (b.Struct (tree.structure tag fs)))))
 
   type_name_fine : Fine 1 (read.type_name ns n inner)
   unfolding read.type_name name_at
@@ -131,7 +131,7 @@ module _ (ns : Names) (n : ℕ) (inner : Inner) (deeper : (i : ℕ) → n ≡ su
 
   a_bound_fine : Fine 1 (read.a_bound ns n inner)
   unfolding read.a_bound
-  a_bound_fine = fine_opens_then n m.OpenBracket (λ i e p. fine_then ((deeper i e).whole) (λ a. fine_then (fine_expect m.CloseBracket) (λ q. fine_pure (tree.bound p a))))
+  a_bound_fine = fine_opens_then n m.OpenBracket (λ i h p. fine_then ((deeper i h).whole) (λ a. fine_then (fine_expect m.CloseBracket) (λ q. fine_pure (tree.bound p a))))
 
   pub declr_fine : Fine 1 (read.declr ns n inner)
   unfolding read.declr
@@ -191,19 +191,19 @@ module _ (ns : Names) (n : ℕ) (inner : Inner) (deeper : (i : ℕ) → n ≡ su
   cast_fine : Fine 1 (read.cast ns n inner)
   unfolding read.cast
   cast_fine =
-      fine_opens_then n m.OpenParen (λ i e p.
-      fine_then ((deeper i e).specifiers) (λ t.
+      fine_opens_then n m.OpenParen (λ i h p.
+      fine_then ((deeper i h).specifiers) (λ t.
       fine_then (fine_expect m.CloseParen) (λ q.
-      fine_then ((deeper i e).unary) (λ a.
+      fine_then ((deeper i h).unary) (λ a.
       fine_pure (e.Cast p t a)))))
 
   bracket_fine : Fine 1 (read.bracket ns n inner)
   unfolding read.bracket
-  bracket_fine = fine_opens_then n m.OpenParen (λ i e p. fine_then ((deeper i e).whole) (λ a. fine_then (fine_expect m.CloseParen) (λ q. fine_pure (e.Bracket p a))))
+  bracket_fine = fine_opens_then n m.OpenParen (λ i h p. fine_then ((deeper i h).whole) (λ a. fine_then (fine_expect m.CloseParen) (λ q. fine_pure (e.Bracket p a))))
 
   prefixed_fine : (op : Prefix) → Fine 1 (read.prefixed ns n inner op)
   unfolding read.prefixed
-  prefixed_fine op = fine_opens_any_then n (λ i e p. fine_then ((deeper i e).unary) (λ a. fine_pure (e.Prefix op p a)))
+  prefixed_fine op = fine_opens_any_then n (λ i h p. fine_then ((deeper i h).unary) (λ a. fine_pure (e.Prefix op p a)))
 
   prefix_by_fine : (o : Option Prefix) → Fine 1 (read.prefix_by ns n inner o)
   prefix_by_fine None = fine_refuse 1
@@ -216,10 +216,10 @@ module _ (ns : Names) (n : ℕ) (inner : Inner) (deeper : (i : ℕ) → n ≡ su
   choice_fine : (c : Expr) → Fine 1 (read.choice ns n inner c)
   unfolding read.choice
   choice_fine c =
-      fine_opens_then n m.Question (λ i e p.
-      fine_then ((deeper i e).whole) (λ a.
+      fine_opens_then n m.Question (λ i h p.
+      fine_then ((deeper i h).whole) (λ a.
       fine_then (fine_expect m.Colon) (λ q.
-      fine_then ((deeper i e).whole) (λ f.
+      fine_then ((deeper i h).whole) (λ f.
       fine_pure (e.Choice c p a f)))))
 
   choice_or_fine : (c : Expr) → Fine 0 (read.choice_or ns n inner c)
@@ -232,3 +232,165 @@ module _ (ns : Names) (n : ℕ) (inner : Inner) (deeper : (i : ℕ) → n ≡ su
 
   links_fine : (l : ℕ) (operand : Parser Expr) → Fine 0 operand → (a : Expr) → Fine 0 (many (read.sees_operator (suc l)) (read.a_link ns n inner operand) >>= (λ xs. pure (read.chained a xs)))
   links_fine l operand one a = fine_then (fine_many (read.sees_operator (suc l)) (operator_ahead (suc l)) (a_link_fine operand one)) (λ xs. fine_pure (read.chained a xs))
+
+-- ---- at an opening bracket
+same_three : (x y : Bool) (d : Read Expr) → cond x d (cond y d d) ≡ d
+same_three true y d = refl
+same_three false true d = refl
+same_three false false d = refl
+
+closed_bracket : (ns : Names) (inner : Inner) (p : Pos) (ts : List Token) → read.bracketed ns zero inner (mark m.OpenParen p ∷ ts) ≡ Deep (mark m.OpenParen p ∷ ts)
+unfolding read.bracketed read.a_place read.place read.through read.cast read.bracket mark_at opens opens_any sees same_mark
+closed_bracket ns inner p ts = same_three (is_through ts) (read.begins_type ns ts) (Deep (mark m.OpenParen p ∷ ts))
+
+module _ (ns : Names) (n : ℕ) (inner : Inner) (fine : IsFine ns inner) where
+  -- a star and a name behind the bracket
+  through_gone : (p q : Pos) (us ts : List Token) → Shrinks 0 ts (variable ns us) → Shrinks 0 ts (read.a_place ns (suc n) inner (mark m.OpenParen p ∷ mark m.Star q ∷ us))
+  unfolding read.a_place read.place read.through mark_at opens opens_any sees same_mark expect
+  through_gone p q us ts v =
+      shrink_then {j = 0} {k = 0} 0 (omega arith)
+      (λ x vs. (fine_pure (e.Place x)).shrinks vs) ts
+      (shrink_then {j = 0} {k = 0} 0 (omega arith) (λ x. (fine_then (fine_expect m.CloseParen) (λ r. fine_then (steps_fine ns (suc n) inner (λ i h. fine)) (λ ss. fine_pure (tree.place (at.Through p q x) ss)))).shrinks) ts v)
+
+  bracket_gone : (p q : Pos) (us ts : List Token) → Shrinks 0 ts (variable ns us) → Shrinks 0 ts (read.bracket ns (suc n) inner (mark m.OpenParen p ∷ mark m.Star q ∷ us))
+  unfolding read.bracket opens opens_any sees same_mark
+  bracket_gone p q us ts v =
+      shrink_then {j = 0} {k = 0} 0 (omega arith) (λ a. (fine_then (fine_expect m.CloseParen) (λ r. fine_pure (e.Bracket p a))).shrinks) ts (fine.star q us ts v)
+
+  star_gone : (p q : Pos) (us ts : List Token) → Shrinks 0 ts (variable ns us) → Shrinks 0 ts (read.bracketed ns (suc n) inner (mark m.OpenParen p ∷ mark m.Star q ∷ us))
+  unfolding read.bracketed read.begins_type read.sees_qualifier read.sees_scalar key_at name_at
+  star_gone p q us ts v = shrink_cond (is_through (mark m.Star q ∷ us)) (through_gone p q us ts v) (bracket_gone p q us ts v)
+
+  -- anything behind it
+  place_gone : (p : Pos) (us : List Token) → Shrinks 0 us (read.a_place ns (suc n) inner (mark m.OpenParen p ∷ us))
+  unfolding read.a_place read.place read.through mark_at opens opens_any sees same_mark
+  place_gone p us = (fine_then (fine_then (fine_expect m.Star) (λ q. fine_then (fine_variable ns) (λ x. fine_then (fine_expect m.CloseParen) (λ r. fine_then (steps_fine ns (suc n) inner (λ i h. fine)) (λ ss. fine_pure (tree.place (at.Through p q x) ss)))))) (λ x. fine_pure (e.Place x))).shrinks us
+
+  cast_gone : (p : Pos) (us : List Token) → Shrinks 0 us (read.cast ns (suc n) inner (mark m.OpenParen p ∷ us))
+  unfolding read.cast opens opens_any sees same_mark
+  cast_gone p us = (fine_then fine.specifiers (λ t. fine_then (fine_expect m.CloseParen) (λ q. fine_then fine.unary (λ a. fine_pure (e.Cast p t a))))).shrinks us
+
+  inner_gone : (p : Pos) (us : List Token) → Shrinks 0 us (read.bracket ns (suc n) inner (mark m.OpenParen p ∷ us))
+  unfolding read.bracket opens opens_any sees same_mark
+  inner_gone p us = (fine_then fine.whole (λ a. fine_then (fine_expect m.CloseParen) (λ q. fine_pure (e.Bracket p a)))).shrinks us
+
+  gone : (p : Pos) (us : List Token) → Shrinks 0 us (read.bracketed ns (suc n) inner (mark m.OpenParen p ∷ us))
+  unfolding read.bracketed
+  gone p us = shrink_cond (is_through us) (place_gone p us) (shrink_cond (read.begins_type ns us) (cast_gone p us) (inner_gone p us))
+
+  -- where the tests say the same on both texts
+  alike : (p : Pos) (c : List Token) (t : Token) (r s : List Token) → is_through (c ++ t ∷ r) ≡ is_through (c ++ t ∷ s)
+      → Local t r s (read.bracketed ns (suc n) inner (mark m.OpenParen p ∷ c ++ t ∷ r)) (read.bracketed ns (suc n) inner (mark m.OpenParen p ∷ c ++ t ∷ s))
+  unfolding read.bracketed
+  alike p c t r s same = local_cond (is_through (c ++ t ∷ r)) (is_through (c ++ t ∷ s)) same
+      ((a_place_fine ns (suc n) inner (λ i h. fine)).local (mark m.OpenParen p ∷ c) t r s)
+      (local_cond (read.begins_type ns (c ++ t ∷ r)) (read.begins_type ns (c ++ t ∷ s)) (same_first (read.begins_type ns) (type_ahead ns) c t r s)
+      ((cast_fine ns (suc n) inner (λ i h. fine)).local (mark m.OpenParen p ∷ c) t r s)
+      ((bracket_fine ns (suc n) inner (λ i h. fine)).local (mark m.OpenParen p ∷ c) t r s))
+
+  -- by the token behind the bracket
+  second : (p : Pos) (w : Word) (q : Pos) (r s : List Token) → let t : Token = record { word = w; pos = q } in Local t r s (read.bracketed ns (suc n) inner (mark m.OpenParen p ∷ t ∷ r)) (read.bracketed ns (suc n) inner (mark m.OpenParen p ∷ t ∷ s))
+  unfolding is_through
+  second p (Mark m.Star) q r s = beyond r (omega arith) (star_gone p q r r ((loosen (fine_variable ns)).shrinks r))
+  second p w q r s = alike p [] (record { word = w; pos = q }) r s refl
+
+  third : (p : Pos) (w : Word) (q : Pos) (t : Token) (r s : List Token) → let c : Token = record { word = w; pos = q } in Local t r s (read.bracketed ns (suc n) inner (mark m.OpenParen p ∷ c ∷ t ∷ r)) (read.bracketed ns (suc n) inner (mark m.OpenParen p ∷ c ∷ t ∷ s))
+  unfolding is_through
+  third p (Mark m.Star) q t r s = beyond r (omega arith) (star_gone p q (t ∷ r) r (variable_gone ns t r))
+  third p w q t r s = alike p ((record { word = w; pos = q }) ∷ []) t r s refl
+
+  open_bracket : (p : Pos) (b : List Token) (t : Token) (r s : List Token) → Local t r s (read.bracketed ns (suc n) inner (mark m.OpenParen p ∷ b ++ t ∷ r)) (read.bracketed ns (suc n) inner (mark m.OpenParen p ∷ b ++ t ∷ s))
+  unfolding is_through
+  open_bracket p [] t r s = second p t.word t.pos r s
+  open_bracket p (c ∷ []) t r s = third p c.word c.pos t r s
+  open_bracket p (c ∷ d ∷ []) t r s = alike p (c ∷ d ∷ []) t r s refl
+  open_bracket p (c ∷ d ∷ f ∷ b) t r s = alike p (c ∷ d ∷ f ∷ b) t r s refl
+
+bracketed_near : (ns : Names) (n : ℕ) (inner : Inner) → ((i : ℕ) → n ≡ suc i → IsFine ns inner) → (p : Pos) (r s : List Token)
+    → Local (mark m.OpenParen p) r s (read.bracketed ns n inner (mark m.OpenParen p ∷ r)) (read.bracketed ns n inner (mark m.OpenParen p ∷ s))
+bracketed_near ns zero inner deeper p r s = rw (closed_bracket ns inner p r) (rw (closed_bracket ns inner p s) (Local.deep []))
+bracketed_near ns (suc n) inner deeper p r s = beyond r (omega arith) (gone ns n inner (deeper n refl) p r)
+
+bracketed_far : (ns : Names) (n : ℕ) (inner : Inner) → ((i : ℕ) → n ≡ suc i → IsFine ns inner) → (p : Pos) (b : List Token) (t : Token) (r s : List Token)
+    → Local t r s (read.bracketed ns n inner (mark m.OpenParen p ∷ b ++ t ∷ r)) (read.bracketed ns n inner (mark m.OpenParen p ∷ b ++ t ∷ s))
+bracketed_far ns zero inner deeper p b t r s = rw (closed_bracket ns inner p (b ++ t ∷ r)) (rw (closed_bracket ns inner p (b ++ t ∷ s)) (Local.deep (mark m.OpenParen p ∷ b)))
+bracketed_far ns (suc n) inner deeper p b t r s = open_bracket ns n inner (deeper n refl) p b t r s
+
+module _ (ns : Names) (n : ℕ) (inner : Inner) (deeper : (i : ℕ) → n ≡ suc i → IsFine ns inner) where
+  mark_shrinks : (mk : Punct) (ts : List Token) → Shrinks 0 ts (read.unary_mark ns n inner mk ts)
+  mark_shrinks m.OpenParen ts = loosen_read (bracketed_shrinks ns n inner deeper ts)
+  mark_shrinks m.Star ts = (loosen (a_place_fine ns n inner deeper)).shrinks ts
+  mark_shrinks mk ts = (loosen (prefix_by_fine ns n inner deeper (prefix_of mk))).shrinks ts
+
+  word_shrinks : (w : Word) (p : Pos) (ts : List Token) → let t : Token = record { word = w; pos = p } in Shrinks 0 (t ∷ ts) (read.unary_by ns n inner t ts)
+  word_shrinks (Name w) p ts = (loosen (a_place_fine ns n inner deeper)).shrinks _
+  word_shrinks (Number v u l d) p ts = Shrinks.got (literal v u l d p ∷ []) refl (omega arith)
+  word_shrinks (Key j) p ts = Shrinks.stuck
+  word_shrinks (Mark mk) p ts = mark_shrinks mk _
+
+  mark_near : (mk : Punct) (p : Pos) (r s : List Token) → Local (mark mk p) r s (read.unary_mark ns n inner mk (mark mk p ∷ r)) (read.unary_mark ns n inner mk (mark mk p ∷ s))
+  mark_near m.OpenParen p r s = bracketed_near ns n inner deeper p r s
+  mark_near m.Star p r s = (a_place_fine ns n inner deeper).local [] (mark m.Star p) r s
+  mark_near mk p r s = (prefix_by_fine ns n inner deeper (prefix_of mk)).local [] (mark mk p) r s
+
+  mark_far : (mk : Punct) (p : Pos) (b : List Token) (t : Token) (r s : List Token) → Local t r s (read.unary_mark ns n inner mk (mark mk p ∷ b ++ t ∷ r)) (read.unary_mark ns n inner mk (mark mk p ∷ b ++ t ∷ s))
+  mark_far m.OpenParen p b t r s = bracketed_far ns n inner deeper p b t r s
+  mark_far m.Star p b t r s = (a_place_fine ns n inner deeper).local (mark m.Star p ∷ b) t r s
+  mark_far mk p b t r s = (prefix_by_fine ns n inner deeper (prefix_of mk)).local (mark mk p ∷ b) t r s
+
+  word_near : (w : Word) (p : Pos) (r s : List Token) → let t : Token = record { word = w; pos = p } in Local t r s (read.unary_by ns n inner t r) (read.unary_by ns n inner t s)
+  word_near (Name w) p r s = (a_place_fine ns n inner deeper).local [] (word w p) r s
+  word_near (Number v u l d) p r s = Local.gone (omega arith)
+  word_near (Key j) p r s = Local.stuck
+  word_near (Mark mk) p r s = mark_near mk p r s
+
+  word_far : (w : Word) (p : Pos) (b : List Token) (t : Token) (r s : List Token) → let c : Token = record { word = w; pos = p } in Local t r s (read.unary_by ns n inner c (b ++ t ∷ r)) (read.unary_by ns n inner c (b ++ t ∷ s))
+  word_far (Name w) p b t r s = (a_place_fine ns n inner deeper).local (word w p ∷ b) t r s
+  word_far (Number v u l d) p b t r s = Local.got b
+  word_far (Key j) p b t r s = Local.stuck
+  word_far (Mark mk) p b t r s = mark_far mk p b t r s
+
+  unary_shrinks : (ts : List Token) → Shrinks 0 ts (read.unary ns n inner ts)
+  unfolding read.unary
+  unary_shrinks [] = Shrinks.stuck
+  unary_shrinks (t ∷ ts) = word_shrinks t.word t.pos ts
+
+  unary_local : (b : List Token) (t : Token) (r s : List Token) → Local t r s (read.unary ns n inner (b ++ t ∷ r)) (read.unary ns n inner (b ++ t ∷ s))
+  unfolding read.unary
+  unary_local [] t r s = word_near t.word t.pos r s
+  unary_local (c ∷ b) t r s = word_far c.word c.pos b t r s
+
+  pub unary_fine : Fine 0 (read.unary ns n inner)
+  unary_fine = record { shrinks = unary_shrinks; local = unary_local }
+
+  pub ranked_fine : (l : ℕ) → Fine 0 (read.ranked ns n inner l)
+  unfolding read.ranked read.chain
+  ranked_fine zero = unary_fine
+  ranked_fine (suc l) = fine_then (ranked_fine l) (links_fine ns n inner deeper l (read.ranked ns n inner l) (ranked_fine l))
+
+  pub whole_fine : Fine 0 (read.whole ns n inner)
+  unfolding read.whole
+  whole_fine = fine_then (ranked_fine loosest) (choice_or_fine ns n inner deeper)
+
+  -- a star at the front
+  star_unary : (p : Pos) (us ts : List Token) → Shrinks 0 ts (variable ns us) → Shrinks 0 ts (read.unary ns n inner (mark m.Star p ∷ us))
+  unfolding read.unary read.a_place read.place mark_at read.star expect same_mark
+  star_unary p us ts v = shrink_then {j = 0} {k = 0} 0 (omega arith) (λ x. (fine_pure (e.Place x)).shrinks) ts
+      (shrink_then {j = 0} {k = 0} 0 (omega arith) (λ x. (fine_pure (tree.place (at.Star p x) [])).shrinks) ts v)
+
+  star_ranked : (l : ℕ) (p : Pos) (us ts : List Token) → Shrinks 0 ts (variable ns us) → Shrinks 0 ts (read.ranked ns n inner l (mark m.Star p ∷ us))
+  unfolding read.ranked read.chain
+  star_ranked zero p us ts v = star_unary p us ts v
+  star_ranked (suc l) p us ts v = shrink_then {j = 0} {k = 0} 0 (omega arith) (λ a. (links_fine ns n inner deeper l (read.ranked ns n inner l) (ranked_fine l) a).shrinks) ts (star_ranked l p us ts v)
+
+  pub star_whole : (p : Pos) (us ts : List Token) → Shrinks 0 ts (variable ns us) → Shrinks 0 ts (read.whole ns n inner (mark m.Star p ∷ us))
+  unfolding read.whole
+  star_whole p us ts v = shrink_then {j = 0} {k = 0} 0 (omega arith) (λ a. (choice_or_fine ns n inner deeper a).shrinks) ts (star_ranked loosest p us ts v)
+
+pub inside_fine : (ns : Names) (n i : ℕ) → n ≡ suc i → IsFine ns (inside ns n)
+unfolding inside
+inside_fine ns zero i h = cc
+inside_fine ns (suc n) i h =
+    let below = inside_fine ns n in
+    let inner = inside ns n in
+    record { whole = whole_fine ns n inner below; unary = unary_fine ns n inner below; specifiers = specifiers_fine ns n inner below; fields = fields_fine ns n inner below; star = star_whole ns n inner below }

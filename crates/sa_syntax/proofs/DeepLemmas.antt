@@ -157,6 +157,14 @@ pub fine_variable : (ns : Names) → Fine 1 (variable ns)
 unfolding variable name_at
 fine_variable ns = fine_taken (λ ts. unless_type ns (name_at ts)) (λ t r s. refl) refl
 
+taken_gone : {A : Type 0} (o : Option A) (t : Token) (ts : List Token) → Shrinks 0 ts (taken o (t ∷ ts))
+taken_gone None t ts = Shrinks.stuck
+taken_gone (Some a) t ts = Shrinks.got [] refl (omega arith)
+
+pub variable_gone : (ns : Names) (t : Token) (ts : List Token) → Shrinks 0 ts (variable ns (t ∷ ts))
+unfolding variable
+variable_gone ns t ts = taken_gone (unless_type ns (name_at (t ∷ ts))) t ts
+
 expect_shrinks : (x : Bool) (t : Token) (ts : List Token) → Shrinks 1 (t ∷ ts) (cond x (Got t.pos ts) (Stuck (t ∷ ts)))
 expect_shrinks true t ts = Shrinks.got (t ∷ []) refl (omega arith)
 expect_shrinks false t ts = Shrinks.stuck
@@ -231,7 +239,7 @@ shorter {us = us} (Shrinks.got xs e l) =
     let h : length (xs ++ us) ≡ length xs + length us = length-append xs us in
     omega (arith, n, h, l)
 
-same_first : (h : List Token → Bool) → Ahead h → (b : List Token) (t : Token) (r s : List Token) → h (b ++ t ∷ r) ≡ h (b ++ t ∷ s)
+pub same_first : (h : List Token → Bool) → Ahead h → (b : List Token) (t : Token) (r s : List Token) → h (b ++ t ∷ r) ≡ h (b ++ t ∷ s)
 same_first h same [] t r s = same t r s
 same_first h same (c ∷ b) t r s = same c (b ++ t ∷ r) (b ++ t ∷ s)
 
