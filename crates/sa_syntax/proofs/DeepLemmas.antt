@@ -1,5 +1,5 @@
 -- Readers answer the same up to a token, whatever follows it.
-use Rattle.std.proofs.Common.{◌≡◌, ℕ, zero, suc, ◌+◌, ◌≤◌, ◌<◌, List, [], ◌∷◌, ◌++◌, Bool, true, false, cond, refl, sym, ap, ◌∙◌, subst, length, append_assoc, length-append, arith, Option, Some, None}
+use Rattle.std.proofs.Common.{◌≡◌, ℕ, zero, suc, ◌+◌, ◌≤◌, ◌<◌, List, [], ◌∷◌, ◌++◌, Bool, true, false, cond, refl, sym, ap, ◌∙◌, subst, length, append_assoc, length-append, arith, ◌⊎◌, inl, inr, Option, Some, None}
 use Rattle.sa_base.specs.declared.pos.Pos.{Pos}
 use Rattle.sa_tokens.specs.declared.keyword.Keyword.{Keyword}
 use Rattle.sa_tokens.specs.declared.punct.Punct.{Punct}
@@ -233,7 +233,7 @@ shrink_while goes item one (suc n) found ts = shrink_cond (goes ts)
     (shrink_then {k = 0} 0 (omega arith) (λ x us. shrink_while goes item one n (found ++ x ∷ []) us) ts (one.shrinks ts)) (Shrinks.got [] refl (omega arith))
 
 -- the second list is shorter where an item was read
-shorter : {k : ℕ} {A : Type 0} {ts us : List Token} {a : A} → Shrinks (suc k) ts (Got a us) → length us < length ts
+pub shorter : {k : ℕ} {A : Type 0} {ts us : List Token} {a : A} → Shrinks k ts (Got a us) → length us + k ≤ length ts
 shorter {us = us} (Shrinks.got xs e l) =
     let n : length _ ≡ length (xs ++ us) = ap length e in
     let h : length (xs ++ us) ≡ length xs + length us = length-append xs us in
@@ -244,13 +244,13 @@ same_first h same [] t r s = same t r s
 same_first h same (c ∷ b) t r s = same c (b ++ t ∷ r) (b ++ t ∷ s)
 
 -- one turn, and what comes behind it
-turn : {A : Type 0} {t : Token} {r s ss : List Token} {x y : Read A} (f g : A → Parser (List A)) (more : ℕ) → length ss < suc more → ((a : A) (c : List Token) → length (c ++ t ∷ s) < more → Local t r s (f a (c ++ t ∷ r)) (g a (c ++ t ∷ s)))
-    → ((a : A) (us : List Token) → Shrinks 0 us (f a us)) → Local t r s x y → Shrinks 1 ss y → Local t r s (and_then x f) (and_then y g)
-turn f g more h go one (Local.got {a} c) l = let k = shorter l in go a c (omega (arith, k, h))
-turn f g more h go one (Local.deep c) l = Local.deep c
-turn f g more h go one (Local.gone {a} {us} k) l = beyond us k (one a us)
-turn f g more h go one (Local.gone_deep k) l = Local.gone_deep k
-turn f g more h go one Local.stuck l = Local.stuck
+pub turn : {A B : Type 0} {t : Token} {r s ss : List Token} {x y : Read A} (f g : A → Parser B) (k : ℕ) → ((a : A) (c : List Token) → length (c ++ t ∷ s) + k ≤ length ss → Local t r s (f a (c ++ t ∷ r)) (g a (c ++ t ∷ s)))
+    → ((a : A) (us : List Token) → Shrinks 0 us (f a us)) → Local t r s x y → Shrinks k ss y → Local t r s (and_then x f) (and_then y g)
+turn f g k go one (Local.got {a} c) l = go a c (shorter l)
+turn f g k go one (Local.deep c) l = Local.deep c
+turn f g k go one (Local.gone {a} {us} h) l = beyond us h (one a us)
+turn f g k go one (Local.gone_deep h) l = Local.gone_deep h
+turn f g k go one Local.stuck l = Local.stuck
 
 pub local_cond : {A : Type 0} {t : Token} {r s : List Token} {x y x' y' : Read A} (b c : Bool) → b ≡ c → Local t r s x x' → Local t r s y y' → Local t r s (cond b x y) (cond c x' y')
 local_cond true true e one other = one
@@ -264,8 +264,65 @@ unfolding while_from
 local_while goes same item one zero more found b t r s h = Local.stuck
 local_while goes same item one (suc n) zero found b t r s h = absurd (omega arith)
 local_while goes same item one (suc n) (suc more) found b t r s h = local_cond (goes (b ++ t ∷ r)) (goes (b ++ t ∷ s)) (same_first goes same b t r s)
-    (turn _ _ more h (λ a c g. local_while goes same item one n more (found ++ a ∷ []) c t r s g) (λ a us. shrink_while goes item one n (found ++ a ∷ []) us) (one.local b t r s) (one.shrinks (b ++ t ∷ s)))
+    (turn _ _ 1 (λ a c g. local_while goes same item one n more (found ++ a ∷ []) c t r s (omega (arith, g, h))) (λ a us. shrink_while goes item one n (found ++ a ∷ []) us) (one.local b t r s) (one.shrinks (b ++ t ∷ s)))
     (Local.got b)
 
 pub fine_many : {A : Type 0} (goes : List Token → Bool) → Ahead goes → {item : Parser A} → Fine 1 item → Fine 0 (many goes item)
 fine_many goes same {item} one = record { shrinks = λ ts. shrink_while goes item one (turns ts) [] ts; local = λ b t r s. local_while goes same item one (turns (b ++ t ∷ r)) (turns (b ++ t ∷ s)) [] b t r s (omega arith) }
+
+-- with a mark after each
+shrink_after : {A : Type 0} {k : ℕ} (ts : List Token) {x : Read A} → Shrinks k (after ts) x → Shrinks 0 ts x
+shrink_after [] one = loosen_read one
+shrink_after (t ∷ ts) one = behind 0 (t ∷ ts) (t ∷ []) ts refl (omega arith) one
+
+pub ends_fine : {A : Type 0} (close : Punct) (a : A) → Fine 0 (expect close >> pure a)
+ends_fine close a = fine_then (fine_expect close) (λ p. fine_pure a)
+
+shrink_list : {A : Type 0} {k : ℕ} (close : Punct) (one : Parser A) → Fine k one → (n : ℕ) (found : List A) (ts : List Token) → Shrinks k ts (list_from close one n found ts)
+unfolding list_from
+shrink_list close one fine zero found ts = Shrinks.stuck
+shrink_list {k = k} close one fine (suc n) found ts = shrink_then {j = k} {k = 0} k (omega arith)
+    (λ x us. shrink_cond (sees m.Comma us) (shrink_after us (shrink_list close one fine n (found ++ x ∷ []) (after us))) ((ends_fine close (found ++ x ∷ [])).shrinks us)) ts (fine.shrinks ts)
+
+local_after : {A : Type 0} (p q : Parser A) (t : Token) (r s : List Token) → Shrinks 0 r (p r) → (c : List Token) → ((d : Token) (b : List Token) → c ≡ d ∷ b → Local t r s (p (b ++ t ∷ r)) (q (b ++ t ∷ s)))
+    → Local t r s (p (after (c ++ t ∷ r))) (q (after (c ++ t ∷ s)))
+local_after p q t r s one [] go = beyond r (omega arith) one
+local_after p q t r s one (d ∷ b) go = go d b refl
+
+local_list : {A : Type 0} {k : ℕ} (close : Punct) (one : Parser A) → Fine k one → (n more : ℕ) (found : List A) (b : List Token) (t : Token) (r s : List Token) → length (b ++ t ∷ s) < more
+    → Local t r s (list_from close one n found (b ++ t ∷ r)) (list_from close one more found (b ++ t ∷ s))
+unfolding list_from
+local_list close one fine zero more found b t r s h = Local.stuck
+local_list close one fine (suc n) zero found b t r s h = absurd (omega arith)
+local_list {k = k} close one fine (suc n) (suc more) found b t r s h =
+    turn _ _ k
+    (λ x c g. local_cond (sees m.Comma (c ++ t ∷ r)) (sees m.Comma (c ++ t ∷ s)) (same_first (sees m.Comma) (sees_ahead m.Comma) c t r s)
+        (local_after (list_from close one n (found ++ x ∷ [])) (list_from close one more (found ++ x ∷ [])) t r s (loosen_read (shrink_list close one fine n (found ++ x ∷ []) r)) c
+            (λ d e i. let l : length (c ++ t ∷ s) ≡ length (d ∷ e ++ t ∷ s) = ap (λ z. length (z ++ t ∷ s)) i in local_list close one fine n more (found ++ x ∷ []) e t r s (omega (arith, g, h, l))))
+        ((ends_fine close (found ++ x ∷ [])).local c t r s))
+    (λ x us. shrink_cond (sees m.Comma us) (shrink_after us (shrink_list close one fine n (found ++ x ∷ []) (after us))) ((ends_fine close (found ++ x ∷ [])).shrinks us))
+    (fine.local b t r s) (fine.shrinks (b ++ t ∷ s))
+
+pub fine_list : {A : Type 0} {k : ℕ} (close : Punct) {one : Parser A} → Fine k one → Fine k (list close one)
+fine_list close {one} fine = record { shrinks = λ ts. shrink_list close one fine (turns ts) [] ts; local = λ b t r s. local_list close one fine (turns (b ++ t ∷ r)) (turns (b ++ t ∷ s)) [] b t r s (omega arith) }
+
+pub fine_within : {A : Type 0} {k : ℕ} (p : ℕ → Parser A) → ((n : ℕ) → Fine k (p n)) → (n i : ℕ) → n ≡ suc i → Fine k (within p n)
+fine_within p each zero i h = cc
+fine_within p each (suc n) i h = each n
+
+-- ---- a test that looks further than the first token: where it does, the token is behind in either case
+pub fine_look : {A : Type 0} {k : ℕ} (h : List Token → Bool) {p q : Parser A} → Fine k p → Fine k q → ((c d f : Token) (r s : List Token) → h (c ∷ d ∷ f ∷ r) ≡ h (c ∷ d ∷ f ∷ s))
+    → ((t : Token) (r s : List Token) → (h (t ∷ r) ≡ h (t ∷ s)) ⊎ (Shrinks 0 r (p (t ∷ r)) × Shrinks 0 r (q (t ∷ r))))
+    → ((c t : Token) (r s : List Token) → (h (c ∷ t ∷ r) ≡ h (c ∷ t ∷ s)) ⊎ (Shrinks 0 r (p (c ∷ t ∷ r)) × Shrinks 0 r (q (c ∷ t ∷ r))))
+    → Fine k (λ ts. cond (h ts) (p ts) (q ts))
+fine_look {k = k} h {p} {q} one other far near second = record { shrinks = λ ts. shrink_cond (h ts) (one.shrinks ts) (other.shrinks ts); local = local }
+  where
+    either : (b : List Token) (t : Token) (r s : List Token) → (h (b ++ t ∷ r) ≡ h (b ++ t ∷ s)) ⊎ (Shrinks 0 r (p (b ++ t ∷ r)) × Shrinks 0 r (q (b ++ t ∷ r)))
+        → Local t r s (cond (h (b ++ t ∷ r)) (p (b ++ t ∷ r)) (q (b ++ t ∷ r))) (cond (h (b ++ t ∷ s)) (p (b ++ t ∷ s)) (q (b ++ t ∷ s)))
+    either b t r s (inl same) = local_cond (h (b ++ t ∷ r)) (h (b ++ t ∷ s)) same (one.local b t r s) (other.local b t r s)
+    either b t r s (inr both) = beyond r (omega arith) (shrink_cond (h (b ++ t ∷ r)) both.0 both.1)
+    local : (b : List Token) (t : Token) (r s : List Token) → Local t r s (cond (h (b ++ t ∷ r)) (p (b ++ t ∷ r)) (q (b ++ t ∷ r))) (cond (h (b ++ t ∷ s)) (p (b ++ t ∷ s)) (q (b ++ t ∷ s)))
+    local [] t r s = either [] t r s (near t r s)
+    local (c ∷ []) t r s = either (c ∷ []) t r s (second c t r s)
+    local (c ∷ d ∷ []) t r s = either (c ∷ d ∷ []) t r s (inl (far c d t r s))
+    local (c ∷ d ∷ f ∷ b) t r s = either (c ∷ d ∷ f ∷ b) t r s (inl (far c d f (b ++ t ∷ r) (b ++ t ∷ s)))
