@@ -18,8 +18,8 @@ use Rattle.sa_syntax.specs.declared.expr.Prefix.{Prefix}
 use Rattle.sa_syntax.specs.declared.expr.PlaceBase.TheVariants as at
 use Rattle.sa_syntax.specs.declared.expr.Step.TheVariants as step
 use Rattle.sa_syntax.specs.Trees as tree
-use Rattle.sa_syntax.specs.Words.{Names, mark, word, literal, is_through, prefix_of, operator_of, loosest}
-use Rattle.sa_syntax.specs.Reading.{Parser, Read, Got, Stuck, Deep, and_then, same_mark, sees, after, expect, opens_any, opens, any_name, variable, name_at, key_at, mark_at, taken, many, turns, pure, ◌>>=◌, ◌>>◌}
+use Rattle.sa_syntax.specs.Words.{Names, mark, key, word, literal, is_through, prefix_of, operator_of, loosest}
+use Rattle.sa_syntax.specs.Reading.{Parser, Read, Got, Stuck, Deep, and_then, same_mark, sees, after, expect, opens_any, opens, any_name, variable, name_at, key_at, mark_at, taken, many, turns, while_from, pure, ◌>>=◌, ◌>>◌}
 use Rattle.sa_syntax.specs.ReadExpr as read
 use Rattle.sa_syntax.specs.ReadExpr.{Inner, inside}
 use Rattle.sa_syntax.proofs.DeepLemmas.{Shrinks, Local, shrink_then, shrink_cond, local_cond, same_first, variable_gone, loosen_read, Fine, Ahead, beyond, loosen, fine_then, fine_first, fine_next, fine_pure, fine_refuse, fine_ahead, fine_if, fine_after, fine_takes, fine_taken, fine_any_name, fine_variable, fine_expect, fine_opens, fine_opens_then, fine_opens_any_then, fine_many, sees_ahead, name_ahead, key_ahead, mark_ahead}
@@ -70,7 +70,7 @@ operator_ahead : (l : ℕ) → Ahead (read.sees_operator l)
 unfolding read.sees_operator mark_at
 operator_ahead l t r s = refl
 
-place_ahead : Ahead tree.pos_of
+pub place_ahead : Ahead tree.pos_of
 place_ahead t r s = refl
 
 module _ (ns : Names) (n : ℕ) (inner : Inner) (deeper : (i : ℕ) → n ≡ suc i → IsFine ns inner) where
@@ -378,14 +378,30 @@ module _ (ns : Names) (n : ℕ) (inner : Inner) (deeper : (i : ℕ) → n ≡ su
   star_unary p us ts v = shrink_then {j = 0} {k = 0} 0 (omega arith) (λ x. (fine_pure (e.Place x)).shrinks) ts
       (shrink_then {j = 0} {k = 0} 0 (omega arith) (λ x. (fine_pure (tree.place (at.Star p x) [])).shrinks) ts v)
 
-  star_ranked : (l : ℕ) (p : Pos) (us ts : List Token) → Shrinks 0 ts (variable ns us) → Shrinks 0 ts (read.ranked ns n inner l (mark m.Star p ∷ us))
+  front_ranked : (l : ℕ) (us ts : List Token) → Shrinks 0 ts (read.unary ns n inner us) → Shrinks 0 ts (read.ranked ns n inner l us)
   unfolding read.ranked read.chain
-  star_ranked zero p us ts v = star_unary p us ts v
-  star_ranked (suc l) p us ts v = shrink_then {j = 0} {k = 0} 0 (omega arith) (λ a. (links_fine ns n inner deeper l (read.ranked ns n inner l) (ranked_fine l) a).shrinks) ts (star_ranked l p us ts v)
+  front_ranked zero us ts v = v
+  front_ranked (suc l) us ts v = shrink_then {j = 0} {k = 0} 0 (omega arith) (λ a. (links_fine ns n inner deeper l (read.ranked ns n inner l) (ranked_fine l) a).shrinks) ts (front_ranked l us ts v)
 
-  pub star_whole : (p : Pos) (us ts : List Token) → Shrinks 0 ts (variable ns us) → Shrinks 0 ts (read.whole ns n inner (mark m.Star p ∷ us))
+  front_whole : (us ts : List Token) → Shrinks 0 ts (read.unary ns n inner us) → Shrinks 0 ts (read.whole ns n inner us)
   unfolding read.whole
-  star_whole p us ts v = shrink_then {j = 0} {k = 0} 0 (omega arith) (λ a. (choice_or_fine ns n inner deeper a).shrinks) ts (star_ranked loosest p us ts v)
+  front_whole us ts v = shrink_then {j = 0} {k = 0} 0 (omega arith) (λ a. (choice_or_fine ns n inner deeper a).shrinks) ts (front_ranked loosest us ts v)
+
+  star_whole : (p : Pos) (us ts : List Token) → Shrinks 0 ts (variable ns us) → Shrinks 0 ts (read.whole ns n inner (mark m.Star p ∷ us))
+  star_whole p us ts v = front_whole (mark m.Star p ∷ us) ts (star_unary p us ts v)
+
+  -- a name at the front
+  pub name_place : (w : List ℕ) (p : Pos) (us : List Token) → Shrinks 0 us (read.place ns n inner (word w p ∷ us))
+  unfolding read.place mark_at read.by_name
+  name_place w p us = shrink_then {j = 0} {k = 0} 0 (omega arith) (λ x. (fine_then (steps_fine ns n inner deeper) (λ ss. fine_pure (tree.place (at.Name x) ss))).shrinks) us (variable_gone ns (word w p) us)
+
+  pub name_whole : (w : List ℕ) (p : Pos) (us : List Token) → Shrinks 0 us (read.whole ns n inner (word w p ∷ us))
+  unfolding read.unary read.a_place
+  name_whole w p us = front_whole (word w p ∷ us) us (shrink_then {j = 0} {k = 0} 0 (omega arith) (λ x. (fine_pure (e.Place x)).shrinks) us (name_place w p us))
+
+  pub void_type : (p : Pos) (us : List Token) → Shrinks 0 us (read.specifiers ns n inner (key k.Void p ∷ us))
+  unfolding read.specifiers while_from read.sees_qualifier key_at read.base
+  void_type p us = Shrinks.got [] refl (omega arith)
 
 pub inside_fine : (ns : Names) (n i : ℕ) → n ≡ suc i → IsFine ns (inside ns n)
 unfolding inside

@@ -18,4 +18,5 @@ pub mod StmtComplete
 pub mod UnitComplete
 pub mod DeepLemmas
 pub mod DeepExpr
+pub mod DeepStmt
 pub mod Samples

@@ -1,0 +1,273 @@
+-- Statements and sources are read the same up to a token, whatever follows it.
+use Rattle.std.proofs.Common.{◌≡◌, ℕ, zero, suc, ◌-◌, ◌≤◌, ◌<◌, ◌+◌, List, [], ◌∷◌, ◌++◌, Bool, true, false, cond, refl, sym, ap, ◌∙◌, subst, arith, length, ◌⊎◌, inl, inr, Option, Some, None}
+use Rattle.std.specs.Prelude.{◌&&◌, ◌||◌}
+use Rattle.sa_base.specs.declared.pos.Pos.{Pos}
+use Rattle.sa_tokens.specs.declared.keyword.Keyword.{Keyword}
+use Rattle.sa_tokens.specs.declared.keyword.Keyword.TheVariants as k
+use Rattle.sa_tokens.specs.declared.punct.Punct.{Punct}
+use Rattle.sa_tokens.specs.declared.punct.Punct.TheVariants as m
+use Rattle.sa_tokens.specs.declared.token.Word.{Word}
+use Rattle.sa_tokens.specs.declared.token.Word.TheVariants.{Name, Number, Key, Mark}
+use Rattle.sa_tokens.specs.declared.token.Token.{Token}
+use Rattle.sa_syntax.specs.declared.decl.Name.{Name as Named}
+use Rattle.sa_syntax.specs.declared.decl.Specifiers.{Specifiers}
+use Rattle.sa_syntax.specs.declared.decl.Struct.{Struct}
+use Rattle.sa_syntax.specs.declared.decl.Declr.{Declr}
+use Rattle.sa_syntax.specs.declared.decl.Init.{Init}
+use Rattle.sa_syntax.specs.declared.decl.Init.TheVariants as init
+use Rattle.sa_syntax.specs.declared.decl.Start.TheVariants as start
+use Rattle.sa_syntax.specs.declared.expr.Expr.{Expr}
+use Rattle.sa_syntax.specs.declared.expr.Place.{Place}
+use Rattle.sa_syntax.specs.declared.stmt.Compound.{Compound}
+use Rattle.sa_syntax.specs.declared.stmt.Turn.{Turn}
+use Rattle.sa_syntax.specs.declared.stmt.Simple.{Simple}
+use Rattle.sa_syntax.specs.declared.stmt.Simple.TheVariants as simply
+use Rattle.sa_syntax.specs.declared.stmt.Arg.{Arg}
+use Rattle.sa_syntax.specs.declared.stmt.ArgValue.TheVariants as value
+use Rattle.sa_syntax.specs.declared.stmt.Directive.{Directive}
+use Rattle.sa_syntax.specs.declared.stmt.Directive.TheVariants as d
+use Rattle.sa_syntax.specs.declared.stmt.First.TheVariants as first
+use Rattle.sa_syntax.specs.declared.stmt.Label.TheVariants as label
+use Rattle.sa_syntax.specs.declared.stmt.LocalStart.TheVariants as begins
+use Rattle.sa_syntax.specs.declared.stmt.Stmt.{Stmt}
+use Rattle.sa_syntax.specs.declared.stmt.Stmt.TheVariants as s
+use Rattle.sa_syntax.specs.declared.stmt.BlockItem.TheVariants as item
+use Rattle.sa_syntax.specs.declared.unit.Params.{Params}
+use Rattle.sa_syntax.specs.declared.unit.Params.TheVariants as given
+use Rattle.sa_syntax.specs.declared.unit.Item.{Item}
+use Rattle.sa_syntax.specs.declared.unit.Item.TheVariants as top
+use Rattle.sa_syntax.specs.Trees as tree
+use Rattle.sa_syntax.specs.Words.{Names, mark, key, word, begins_with_star, begins_with_else, begins_with_label, is_void_alone}
+use Rattle.sa_syntax.specs.Statements.{all_named}
+use Rattle.sa_syntax.specs.Reading.{Parser, Read, Got, Stuck, Deep, and_then, same_mark, is_mark, sees, after, expect, opens, any_name, variable, name_at, key_at, mark_at, unless_type, taken, many, turns, pure, refuse, ◌>>=◌, ◌>>◌}
+use Rattle.sa_syntax.specs.ReadExpr.{begins_type, is_some, inside}
+use Rattle.sa_syntax.specs.ReadExpr as expr
+use Rattle.sa_syntax.specs.ReadStmt as read
+use Rattle.sa_syntax.specs.ReadStmt.{Bodies, takes, within, list}
+use Rattle.sa_syntax.proofs.DeepLemmas.{Shrinks, Local, Fine, Ahead, behind, beyond, loosen, loosen_read, shrink_then, shrink_cond, shorter, turn, local_cond, same_first, ends_fine, variable_gone, fine_then, fine_first, fine_next, fine_pure, fine_refuse, fine_ahead, fine_if, fine_after, fine_takes, fine_any_name, fine_variable, fine_expect, fine_opens, fine_opens_then, fine_many, fine_list, fine_within, fine_look, sees_ahead, name_ahead, key_ahead, mark_ahead}
+use Rattle.sa_syntax.proofs.DeepExpr as fine
+use Rattle.sa_syntax.proofs.DeepExpr.{inside_fine, type_ahead, place_ahead}
+
+-- ---- what is read of expressions and types
+module _ (ns : Names) (n : ℕ) where
+  expr_fine : Fine 0 (read.expr ns n)
+  expr_fine = fine.whole_fine ns n (inside ns n) (inside_fine ns n)
+
+  place_fine : Fine 1 (read.place ns n)
+  place_fine = fine.place_fine ns n (inside ns n) (inside_fine ns n)
+
+  specifiers_fine : Fine 0 (read.specifiers ns n)
+  specifiers_fine = fine.specifiers_fine ns n (inside ns n) (inside_fine ns n)
+
+  declr_fine : Fine 1 (read.declr ns n)
+  declr_fine = fine.declr_fine ns n (inside ns n) (inside_fine ns n)
+
+  name_expr : (w : List ℕ) (p : Pos) (us : List Token) → Shrinks 0 us (read.expr ns n (word w p ∷ us))
+  name_expr = fine.name_whole ns n (inside ns n) (inside_fine ns n)
+
+  name_place : (w : List ℕ) (p : Pos) (us : List Token) → Shrinks 0 us (read.place ns n (word w p ∷ us))
+  name_place = fine.name_place ns n (inside ns n) (inside_fine ns n)
+
+-- ---- initialisers
+shrink_reader : {A : Type 0} {k : ℕ} (p q : Parser A) (b : Bool) (ts : List Token) → Shrinks k ts (p ts) → Shrinks k ts (q ts) → Shrinks k ts (cond b p q ts)
+shrink_reader p q true ts one other = one
+shrink_reader p q false ts one other = other
+
+local_reader : {A : Type 0} {t : Token} {r s us vs : List Token} (p q p' q' : Parser A) (b c : Bool) → b ≡ c → Local t r s (p us) (p' vs) → Local t r s (q us) (q' vs) → Local t r s (cond b p q us) (cond c p' q' vs)
+local_reader p q p' q' true true e one other = one
+local_reader p q p' q' false false e one other = other
+local_reader p q p' q' true false e one other = cc
+local_reader p q p' q' false true e one other = cc
+
+inits_end : (found : List Init) → Fine 0 (expect m.CloseBrace >> pure found)
+inits_end found = ends_fine m.CloseBrace found
+
+shrink_inits : (one : Parser Init) → Fine 0 one → (n : ℕ) (found : List Init) (ts : List Token) → Shrinks 0 ts (read.inits_from one n found ts)
+unfolding read.inits_from
+shrink_inits one each zero found ts = Shrinks.stuck
+shrink_inits one each (suc n) found ts =
+    shrink_then {j = 0} {k = 0} 0 (omega arith) (λ i us. shrink_reader _ _ (sees m.Comma us) us
+        (shrink_then {j = 1} {k = 0} 0 (omega arith) (λ p vs. shrink_reader _ _ (sees m.CloseBrace vs) vs ((inits_end (found ++ i ∷ [])).shrinks vs) (shrink_inits one each n (found ++ i ∷ []) vs)) us ((fine_expect m.Comma).shrinks us))
+        ((inits_end (found ++ i ∷ [])).shrinks us)) ts (each.shrinks ts)
+
+local_inits : (one : Parser Init) → Fine 0 one → (n more : ℕ) (found : List Init) (b : List Token) (t : Token) (r s : List Token) → length (b ++ t ∷ s) < more
+    → Local t r s (read.inits_from one n found (b ++ t ∷ r)) (read.inits_from one more found (b ++ t ∷ s))
+unfolding read.inits_from
+local_inits one each zero more found b t r s h = Local.stuck
+local_inits one each (suc n) zero found b t r s h = absurd (omega arith)
+local_inits one each (suc n) (suc more) found b t r s h =
+    turn _ _ 0
+    (λ i c g. local_reader _ _ _ _ (sees m.Comma (c ++ t ∷ r)) (sees m.Comma (c ++ t ∷ s)) (same_first (sees m.Comma) (sees_ahead m.Comma) c t r s)
+        (turn _ _ 1
+            (λ p e f. local_reader _ _ _ _ (sees m.CloseBrace (e ++ t ∷ r)) (sees m.CloseBrace (e ++ t ∷ s)) (same_first (sees m.CloseBrace) (sees_ahead m.CloseBrace) e t r s)
+                ((inits_end (found ++ i ∷ [])).local e t r s) (local_inits one each n more (found ++ i ∷ []) e t r s (omega (arith, f, g, h))))
+            (λ p vs. shrink_reader _ _ (sees m.CloseBrace vs) vs ((inits_end (found ++ i ∷ [])).shrinks vs) (shrink_inits one each n (found ++ i ∷ []) vs))
+            ((fine_expect m.Comma).local c t r s) ((fine_expect m.Comma).shrinks (c ++ t ∷ s)))
+        ((inits_end (found ++ i ∷ [])).local c t r s))
+    (λ i us. shrink_reader _ _ (sees m.Comma us) us
+        (shrink_then {j = 1} {k = 0} 0 (omega arith) (λ p vs. shrink_reader _ _ (sees m.CloseBrace vs) vs ((inits_end (found ++ i ∷ [])).shrinks vs) (shrink_inits one each n (found ++ i ∷ []) vs)) us ((fine_expect m.Comma).shrinks us))
+        ((inits_end (found ++ i ∷ [])).shrinks us))
+    (each.local b t r s) (each.shrinks (b ++ t ∷ s))
+
+inits_fine : (one : Parser Init) → Fine 0 one → Fine 0 (λ ts. read.inits_from one (turns ts) [] ts)
+inits_fine one each = record { shrinks = λ ts. shrink_inits one each (turns ts) [] ts; local = λ b t r s. local_inits one each (turns (b ++ t ∷ r)) (turns (b ++ t ∷ s)) [] b t r s (omega arith) }
+
+braces_fine : (n : ℕ) (one : Parser Init) → ((i : ℕ) → n ≡ suc i → Fine 0 one) → Fine 1 (read.braces n one)
+unfolding read.braces
+braces_fine n one each = fine_opens_then n m.OpenBrace (λ i h p. fine_then (inits_fine one (each i h)) (λ is. fine_pure (init.Braces p is)))
+
+init_by_fine : (ns : Names) (n : ℕ) (one : Parser Init) → ((i : ℕ) → n ≡ suc i → Fine 0 one) → Fine 0 (read.init_by ns n one)
+unfolding read.init_by
+init_by_fine ns n one each = fine_if (sees m.OpenBrace) (sees_ahead m.OpenBrace) (loosen (braces_fine n one each)) (fine_then (expr_fine ns n) (λ a. fine_pure (init.Value a)))
+
+init_at_fine : (ns : Names) (n : ℕ) → Fine 0 (read.init_at ns n)
+unfolding read.init_at
+init_at_fine ns zero = init_by_fine ns zero (λ ts. Deep ts) (λ i h. cc)
+init_at_fine ns (suc n) = init_by_fine ns (suc n) (read.init_at ns n) (λ i h. init_at_fine ns n)
+
+module _ (ns : Names) (n : ℕ) where
+  init_declr_fine : Fine 1 (read.init_declr ns n)
+  unfolding read.init_declr
+  init_declr_fine = fine_first (declr_fine ns n) (λ x.
+      fine_if (sees m.Equal) (sees_ahead m.Equal) (fine_then (fine_expect m.Equal) (λ p. fine_then (init_at_fine ns n) (λ i. fine_pure (tree.init_declr x (start.Init p i))))) (fine_pure (tree.init_declr x start.Nothing)))
+
+  -- ---- calls
+  arg_value_fine : Fine 0 (read.arg_value ns n)
+  unfolding read.arg_value
+  arg_value_fine = fine_if (sees m.Ampersand) (sees_ahead m.Ampersand)
+      (fine_then (fine_expect m.Ampersand) (λ p. fine_then (place_fine ns n) (λ x. fine_pure (value.Reference p x))))
+      (fine_then (expr_fine ns n) (λ a. fine_pure (value.Value a)))
+
+  shrink_args : (left : ℕ) (p : Pos) (found : List Arg) (ts : List Token) → Shrinks 0 ts (read.args_from ns n left p found ts)
+  unfolding read.args_from
+  shrink_args zero p found ts = Shrinks.stuck
+  shrink_args (suc left) p found ts =
+      shrink_then {j = 0} {k = 0} 0 (omega arith) (λ v us. shrink_cond (sees m.Comma us)
+          (shrink_then {j = 1} {k = 0} 0 (omega arith) (λ q vs. shrink_args left q (found ++ tree.arg p v ∷ []) vs) us ((fine_expect m.Comma).shrinks us))
+          ((ends_fine m.CloseParen (found ++ tree.arg p v ∷ [])).shrinks us)) ts (arg_value_fine.shrinks ts)
+
+  local_args : (left more : ℕ) (p : Pos) (found : List Arg) (b : List Token) (t : Token) (r s : List Token) → length (b ++ t ∷ s) < more
+      → Local t r s (read.args_from ns n left p found (b ++ t ∷ r)) (read.args_from ns n more p found (b ++ t ∷ s))
+  unfolding read.args_from
+  local_args zero more p found b t r s h = Local.stuck
+  local_args (suc left) zero p found b t r s h = absurd (omega arith)
+  local_args (suc left) (suc more) p found b t r s h =
+      turn _ _ 0
+      (λ v c g. local_cond (sees m.Comma (c ++ t ∷ r)) (sees m.Comma (c ++ t ∷ s)) (same_first (sees m.Comma) (sees_ahead m.Comma) c t r s)
+          (turn _ _ 1 (λ q e f. local_args left more q (found ++ tree.arg p v ∷ []) e t r s (omega (arith, f, g, h))) (λ q vs. shrink_args left q (found ++ tree.arg p v ∷ []) vs)
+              ((fine_expect m.Comma).local c t r s) ((fine_expect m.Comma).shrinks (c ++ t ∷ s)))
+          ((ends_fine m.CloseParen (found ++ tree.arg p v ∷ [])).local c t r s))
+      (λ v us. shrink_cond (sees m.Comma us)
+          (shrink_then {j = 1} {k = 0} 0 (omega arith) (λ q vs. shrink_args left q (found ++ tree.arg p v ∷ []) vs) us ((fine_expect m.Comma).shrinks us))
+          ((ends_fine m.CloseParen (found ++ tree.arg p v ∷ [])).shrinks us))
+      (arg_value_fine.local b t r s) (arg_value_fine.shrinks (b ++ t ∷ s))
+
+  args_fine : (p : Pos) → Fine 0 (read.args ns p n)
+  unfolding read.args
+  args_fine p = fine_if (sees m.CloseParen) (sees_ahead m.CloseParen) (fine_after (fine_pure []))
+      (record { shrinks = λ ts. shrink_args (turns ts) p [] ts; local = λ b t r s. local_args (turns (b ++ t ∷ r)) (turns (b ++ t ∷ s)) p [] b t r s (omega arith) })
+
+init_by_name : (ns : Names) (n : ℕ) (one : Parser Init) (w : List ℕ) (p : Pos) (us : List Token) → Shrinks 0 us (read.init_by ns n one (word w p ∷ us))
+unfolding read.init_by sees
+init_by_name ns n one w p us = shrink_then {j = 0} {k = 0} 0 (omega arith) (λ a. (fine_pure (init.Value a)).shrinks) us (name_expr ns n w p us)
+
+init_name : (ns : Names) (n : ℕ) (w : List ℕ) (p : Pos) (us : List Token) → Shrinks 0 us (read.init_at ns n (word w p ∷ us))
+unfolding read.init_at
+init_name ns zero w p us = init_by_name ns zero (λ ts. Deep ts) w p us
+init_name ns (suc n) w p us = init_by_name ns (suc n) (read.init_at ns n) w p us
+
+args_fine_at : (ns : Names) (p : Pos) (n : ℕ) → Fine 0 (read.args ns p n)
+args_fine_at ns p n = args_fine ns n p
+
+-- ---- a call is seen by its name and a bracket
+module _ (ns : Names) (n : ℕ) where
+  call_fine : Fine 1 (read.call ns n)
+  unfolding read.call
+  call_fine = fine_first (fine_variable ns) (λ x. fine_opens_then n m.OpenParen (λ i h p. fine_then (fine_within (read.args ns p) (λ n. args_fine_at ns p n) n i h) (λ xs. fine_pure (tree.call x xs))))
+
+  -- the name is taken
+  call_gone : (w : List ℕ) (p : Pos) (us : List Token) → Shrinks 0 us (read.call ns n (word w p ∷ us))
+  unfolding read.call
+  call_gone w p us = shrink_then {j = 0} {k = 0} 0 (omega arith) (λ x vs. loosen_read ((opened_fine x).shrinks vs)) us (variable_gone ns (word w p) us)
+    where
+      opened_fine : (x : Named) → Fine 1 (opens n m.OpenParen >>= (λ p. within (read.args ns p) n >>= (λ xs. pure (tree.call x xs))))
+      opened_fine x = fine_opens_then n m.OpenParen (λ i h p. fine_then (fine_within (read.args ns p) (λ n. args_fine_at ns p n) n i h) (λ xs. fine_pure (tree.call x xs)))
+
+  call_far : (c d f : Token) (r s : List Token) → read.sees_call ns (c ∷ d ∷ f ∷ r) ≡ read.sees_call ns (c ∷ d ∷ f ∷ s)
+  unfolding read.sees_call name_at sees
+  call_far c d f r s = refl
+
+  call_second : (c d : Token) (r s : List Token) → read.sees_call ns (c ∷ d ∷ r) ≡ read.sees_call ns (c ∷ d ∷ s)
+  unfolding read.sees_call name_at sees
+  call_second c d r s = refl
+
+  -- where the front is a name both readers take it
+  call_near : {A : Type 0} (p q : Parser A) → ((w : List ℕ) (at : Pos) (us : List Token) → Shrinks 0 us (p (word w at ∷ us))) → ((w : List ℕ) (at : Pos) (us : List Token) → Shrinks 0 us (q (word w at ∷ us)))
+      → (w : Word) (at : Pos) (r s : List Token) → let t : Token = record { word = w; pos = at } in (read.sees_call ns (t ∷ r) ≡ read.sees_call ns (t ∷ s)) ⊎ (Shrinks 0 r (p (t ∷ r)) × Shrinks 0 r (q (t ∷ r)))
+  unfolding read.sees_call name_at
+  call_near p q one other (Name w) at r s = inr (one w at r, other w at r)
+  call_near p q one other (Number v u l d) at r s = inl refl
+  call_near p q one other (Key j) at r s = inl refl
+  call_near p q one other (Mark mk) at r s = inl refl
+
+  call_or_fine : {A : Type 0} {k : ℕ} (p q : Parser A) → Fine k p → Fine k q → ((w : List ℕ) (at : Pos) (us : List Token) → Shrinks 0 us (p (word w at ∷ us))) → ((w : List ℕ) (at : Pos) (us : List Token) → Shrinks 0 us (q (word w at ∷ us)))
+      → Fine k (λ ts. cond (read.sees_call ns ts) (p ts) (q ts))
+  call_or_fine p q one other gone away = fine_look (read.sees_call ns) one other call_far (λ t r s. call_near p q gone away t.word t.pos r s) (λ c t r s. inl (call_second c t r s))
+
+  -- ---- assignments
+  before_fine : (t : Turn) → Fine 1 (read.before ns n t)
+  unfolding read.before
+  before_fine t = fine_first fine_takes (λ p. fine_then (place_fine ns n) (λ x. fine_pure (simply.Before t p x)))
+
+  compounded_fine : (x : Place) (o : Option Compound) → Fine 0 (read.compounded ns n x o)
+  compounded_fine x None = fine_refuse 0
+  compounded_fine x (Some op) = fine_then fine_takes (λ p. fine_then (expr_fine ns n) (λ a. fine_pure (simply.Compound x op p a)))
+
+  stuck_or : {A : Type 0} (b : Bool) {p : Parser A} → Fine 0 p → Fine 0 (λ ts. cond b (Stuck ts) (p ts))
+  stuck_or true one = fine_refuse 0
+  stuck_or false one = one
+
+  turned_fine : (star : Bool) (x : Place) (o : Option Turn) → Fine 0 (read.turned ns n star x o)
+  turned_fine star x None = fine_ahead (λ ts. read.compound_in (mark_at ts)) (λ t r s. ap read.compound_in (mark_ahead t r s)) (read.compounded ns n x) (compounded_fine x)
+  turned_fine star x (Some t) = stuck_or star (fine_then fine_takes (λ p. fine_pure (simply.After x t p)))
+
+  turn_ahead : Ahead (λ ts. read.turn_in (mark_at ts))
+  turn_ahead t r s = ap read.turn_in (mark_ahead t r s)
+
+  assigned_fine : (star : Bool) (x : Place) → Fine 0 (read.assigned ns n star x)
+  unfolding read.assigned
+  assigned_fine star x = fine_if (sees m.Equal) (sees_ahead m.Equal) (fine_then (fine_expect m.Equal) (λ p. fine_then (expr_fine ns n) (λ a. fine_pure (simply.Assign x p a))))
+      (fine_ahead (λ ts. read.turn_in (mark_at ts)) turn_ahead (read.turned ns n star x) (turned_fine star x))
+
+  star_ahead : Ahead begins_with_star
+  star_ahead t r s = refl
+
+  simple_by_fine : (o : Option Turn) → Fine 1 (read.simple_by ns n o)
+  simple_by_fine (Some t) = before_fine t
+  simple_by_fine None = fine_ahead begins_with_star star_ahead (λ star. read.place ns n >>= read.assigned ns n star) (λ star. fine_first (place_fine ns n) (assigned_fine star))
+
+  simple_fine : Fine 1 (read.simple ns n)
+  unfolding read.simple
+  simple_fine = fine_ahead (λ ts. read.turn_in (mark_at ts)) turn_ahead (read.simple_by ns n) simple_by_fine
+
+  -- ---- locals
+  init_fine : (x : Declr) (p : Pos) → Fine 0 (read.init_at ns n >>= (λ i. pure (tree.local_declr x (begins.Init p i))))
+  init_fine x p = fine_then (init_at_fine ns n) (λ i. fine_pure (tree.local_declr x (begins.Init p i)))
+
+  init_gone : (w : List ℕ) (p : Pos) (us : List Token) → Shrinks 0 us (read.init_at ns n (word w p ∷ us))
+  init_gone w p us = init_name ns n w p us
+
+  local_start_fine : (x : Declr) → Fine 0 (read.local_start ns n x)
+  unfolding read.local_start
+  local_start_fine x = fine_then (fine_expect m.Equal) (λ p. call_or_fine (read.call ns n >>= (λ c. pure (tree.local_declr x (begins.Call p c)))) (read.init_at ns n >>= (λ i. pure (tree.local_declr x (begins.Init p i))))
+      (fine_then call_fine (λ c. fine_pure (tree.local_declr x (begins.Call p c)))) (init_fine x p)
+      (λ w at us. shrink_then {j = 0} {k = 0} 0 (omega arith) (λ c. (fine_pure (tree.local_declr x (begins.Call p c))).shrinks) us (call_gone w at us))
+      (λ w at us. shrink_then {j = 0} {k = 0} 0 (omega arith) (λ i. (fine_pure (tree.local_declr x (begins.Init p i))).shrinks) us (init_gone w at us)))
+
+  local_declr_fine : Fine 1 (read.local_declr ns n)
+  unfolding read.local_declr
+  local_declr_fine = fine_first (declr_fine ns n) (λ x. fine_if (sees m.Equal) (sees_ahead m.Equal) (local_start_fine x) (fine_pure (tree.local_declr x begins.Nothing)))
+
+  local_fine : Fine 1 (read.local ns n)
+  unfolding read.local
+  local_fine = fine_next (specifiers_fine ns n) (λ t. fine_first (fine_list m.Semicolon local_declr_fine) (λ ds. fine_pure (tree.local t ds)))
