@@ -271,3 +271,262 @@ module _ (ns : Names) (n : ℕ) where
   local_fine : Fine 1 (read.local ns n)
   unfolding read.local
   local_fine = fine_next (specifiers_fine ns n) (λ t. fine_first (fine_list m.Semicolon local_declr_fine) (λ ds. fine_pure (tree.local t ds)))
+
+-- ---- directives and parts of statements
+double_bracket_fine : {A : Type 0} (n : ℕ) (p : Parser A) → ((i : ℕ) → n ≡ suc (suc i) → Fine 0 p) → Fine 1 (read.double_bracket n p)
+unfolding read.double_bracket
+double_bracket_fine n p each = fine_opens_then n m.OpenParen (λ i h a. fine_opens_then (n - 1) m.OpenParen (λ j g b. let two : n ≡ suc (suc j) = omega (arith, h, g) in
+    fine_then (each j two) (λ x. fine_then (fine_expect m.CloseParen) (λ c. fine_then (fine_expect m.CloseParen) (λ d. fine_pure x)))))
+
+bare_fine : (n : ℕ) (a : Directive) → Fine 1 (read.bare n a)
+unfolding read.bare
+bare_fine n a = fine_first fine_takes (λ p. double_bracket_fine n (pure a) (λ i h. fine_pure a))
+
+within_two : (ns : Names) (n i : ℕ) → n ≡ suc (suc i) → Fine 0 (within (within (λ n. read.expr ns n)) n)
+within_two ns zero i h = cc
+within_two ns (suc zero) i h = absurd (omega arith)
+within_two ns (suc (suc n)) i h = expr_fine ns n
+
+with_expr_fine : (ns : Names) (n : ℕ) (f : Expr → Directive) → Fine 1 (read.with_expr ns n f)
+unfolding read.with_expr
+with_expr_fine ns n f = fine_first (fine_first fine_takes (λ p. double_bracket_fine n (within (within (λ n. read.expr ns n)) n) (within_two ns n))) (λ a. fine_pure (f a))
+
+ended_fine : (p : Parser Directive) → Fine 1 p → Fine 1 (read.ended p)
+unfolding read.ended
+ended_fine p one = fine_ahead tree.pos_of place_ahead (λ at. p >>= (λ a. expect m.Semicolon >>= (λ _. pure (s.Directive at a)))) (λ at. fine_first one (λ a. fine_then (fine_expect m.Semicolon) (λ q. fine_pure (s.Directive at a))))
+
+first_of_fine : (ns : Names) (n : ℕ) → Fine 0 (read.first_of ns n)
+unfolding read.first_of read.declares
+first_of_fine ns n = fine_if (sees m.Semicolon) (sees_ahead m.Semicolon) (fine_pure first.Nothing)
+    (fine_if (begins_type ns) (type_ahead ns)
+        (fine_then (specifiers_fine ns n) (λ t. fine_then (declr_fine ns n) (λ x. fine_then (fine_expect m.Equal) (λ p. fine_then (expr_fine ns n) (λ a. fine_pure (first.Declares t x p a))))))
+        (fine_then (simple_fine ns n) (λ a. fine_pure (first.Simple a))))
+
+expr_before_fine : (ns : Names) (mk : Punct) (n : ℕ) → Fine 0 (read.expr_before ns mk n)
+unfolding read.expr_before
+expr_before_fine ns mk n = fine_if (sees mk) (sees_ahead mk) (fine_pure None) (fine_then (expr_fine ns n) (λ a. fine_pure (Some a)))
+
+simple_before_fine : (ns : Names) (mk : Punct) (n : ℕ) → Fine 0 (read.simple_before ns mk n)
+unfolding read.simple_before
+simple_before_fine ns mk n = fine_if (sees mk) (sees_ahead mk) (fine_pure None) (fine_then (simple_fine ns n) (λ a. fine_pure (Some a)))
+
+condition_fine : (ns : Names) (n : ℕ) → Fine 1 (read.condition ns n)
+unfolding read.condition
+condition_fine ns n = fine_opens_then n m.OpenParen (λ i h p. fine_then (fine_within (read.expr ns) (expr_fine ns) n i h) (λ a. fine_then (fine_expect m.CloseParen) (λ q. fine_pure a)))
+
+label_by_fine : (ns : Names) (n : ℕ) (o : Option Keyword) → Fine 1 (read.label_by ns n o)
+unfolding read.case read.default
+label_by_fine ns n (Some k.Case) = fine_first fine_takes (λ p. fine_then (expr_fine ns n) (λ a. fine_then (fine_expect m.Colon) (λ q. fine_pure (label.Case p a))))
+label_by_fine ns n (Some k.Default) = fine_first fine_takes (λ p. fine_then (fine_expect m.Colon) (λ q. fine_pure (label.Default p)))
+label_by_fine ns n o = fine_refuse 1
+
+a_label_fine : (ns : Names) (n : ℕ) → Fine 1 (read.a_label ns n)
+unfolding read.a_label
+a_label_fine ns n = fine_ahead key_at key_ahead (read.label_by ns n) (label_by_fine ns n)
+
+-- ---- statements
+pub record IsFine (n : ℕ) (bodies : Bodies) : Type 0 where
+  pub stmt : Fine 1 bodies.stmt
+  pub items : (i : ℕ) → n ≡ suc i → Fine 0 bodies.items
+  pub groups : (i : ℕ) → n ≡ suc i → Fine 0 bodies.groups
+
+else_ahead : Ahead begins_with_else
+else_ahead t r s = refl
+
+label_ahead : Ahead begins_with_label
+label_ahead t r s = refl
+
+module _ (ns : Names) (n : ℕ) (bodies : Bodies) (deeper : IsFine n bodies) where
+  block_fine : Fine 1 (read.block ns n bodies)
+  unfolding read.block
+  block_fine = fine_opens_then n m.OpenBrace (λ i h p. fine_then (deeper.items i h) (λ is. fine_then (fine_expect m.CloseBrace) (λ q. fine_pure (s.Block (tree.block p is q)))))
+
+  empty_fine : Fine 1 (read.empty ns n bodies)
+  unfolding read.empty
+  empty_fine = fine_first fine_takes (λ p. fine_pure (s.Empty p))
+
+  call_stmt_fine : Fine 1 (read.call_stmt ns n bodies)
+  unfolding read.call_stmt
+  call_stmt_fine = fine_first (call_fine ns n) (λ c. fine_then (fine_expect m.Semicolon) (λ p. fine_pure (s.Call c)))
+
+  gives_tail : (x : Place) (p : Pos) → Fine 1 (read.call ns n >>= (λ c. expect m.Semicolon >>= (λ _. pure (s.Gives x p c))))
+  gives_tail x p = fine_first (call_fine ns n) (λ c. fine_then (fine_expect m.Semicolon) (λ q. fine_pure (s.Gives x p c)))
+
+  gives_fine : (x : Place) → Fine 0 (read.gives ns n bodies x)
+  unfolding read.gives
+  gives_fine x = fine_then (fine_expect m.Equal) (gives_tail x)
+
+  simple_tail : (a : Simple) → Fine 0 (expect m.Semicolon >>= (λ _. pure (s.Simple a)))
+  simple_tail a = fine_then (fine_expect m.Semicolon) (λ q. fine_pure (s.Simple a))
+
+  simple_ended_fine : {k : ℕ} (p : Parser Simple) → Fine k p → Fine k (read.simple_ended ns n bodies p)
+  unfolding read.simple_ended
+  simple_ended_fine p one = fine_first one simple_tail
+
+  -- whether a call is assigned
+  abbrev call_comes : List Token → Bool
+  call_comes ts = sees m.Equal ts && read.sees_call ns (after ts)
+
+  comes_far : (c d f : Token) (r s : List Token) → call_comes (c ∷ d ∷ f ∷ r) ≡ call_comes (c ∷ d ∷ f ∷ s)
+  unfolding read.sees_call name_at sees
+  comes_far c d f r s = refl
+
+  equal_gone : (star : Bool) (x : Place) (p : Pos) (us : List Token) → Shrinks 0 us (read.simple_ended ns n bodies (read.assigned ns n star x) (mark m.Equal p ∷ us))
+  unfolding read.simple_ended read.assigned sees same_mark expect
+  equal_gone star x p us = (fine_then (fine_then (expr_fine ns n) (λ a. fine_pure (simply.Assign x p a))) simple_tail).shrinks us
+
+  gives_gone : (x : Place) (p : Pos) (us : List Token) → Shrinks 0 us (read.gives ns n bodies x (mark m.Equal p ∷ us))
+  unfolding read.gives same_mark expect
+  gives_gone x p us = (loosen (gives_tail x p)).shrinks us
+
+  equal_name_gone : (star : Bool) (x : Place) (p : Pos) (w : List ℕ) (q : Pos) (us : List Token) → Shrinks 0 us (read.simple_ended ns n bodies (read.assigned ns n star x) (mark m.Equal p ∷ word w q ∷ us))
+  unfolding read.simple_ended read.assigned sees same_mark expect
+  equal_name_gone star x p w q us = shrink_then {j = 0} {k = 0} 0 (omega arith) (λ a. (simple_tail a).shrinks) us
+      (shrink_then {j = 0} {k = 0} 0 (omega arith) (λ a. (fine_pure (simply.Assign x p a)).shrinks) us (name_expr ns n w q us))
+
+  gives_name_gone : (x : Place) (p : Pos) (w : List ℕ) (q : Pos) (us : List Token) → Shrinks 0 us (read.gives ns n bodies x (mark m.Equal p ∷ word w q ∷ us))
+  unfolding read.gives same_mark expect
+  gives_name_gone x p w q us = shrink_then {j = 0} {k = 0} 0 (omega arith) (λ c. (fine_then (fine_expect m.Semicolon) (λ o. fine_pure (s.Gives x p c))).shrinks) us (call_gone ns n w q us)
+
+  abbrev BothGone : Bool → Place → List Token → List Token → Type 0
+  BothGone star x ts us = Shrinks 0 us (read.gives ns n bodies x ts) × Shrinks 0 us (read.simple_ended ns n bodies (read.assigned ns n star x) ts)
+
+  comes_near : (star : Bool) (x : Place) (w : Word) (p : Pos) (r s : List Token) → let t : Token = record { word = w; pos = p } in (call_comes (t ∷ r) ≡ call_comes (t ∷ s)) ⊎ BothGone star x (t ∷ r) r
+  unfolding sees same_mark
+  comes_near star x (Mark m.Equal) p r s = inr (gives_gone x p r, equal_gone star x p r)
+  comes_near star x w p r s = inl refl
+
+  comes_name : (star : Bool) (x : Place) (p : Pos) (w : Word) (q : Pos) (r s : List Token) → let t : Token = record { word = w; pos = q } in (call_comes (mark m.Equal p ∷ t ∷ r) ≡ call_comes (mark m.Equal p ∷ t ∷ s)) ⊎ BothGone star x (mark m.Equal p ∷ t ∷ r) r
+  unfolding sees same_mark read.sees_call name_at
+  comes_name star x p (Name w) q r s = inr (gives_name_gone x p w q r, equal_name_gone star x p w q r)
+  comes_name star x p (Number v u l d) q r s = inl refl
+  comes_name star x p (Key j) q r s = inl refl
+  comes_name star x p (Mark j) q r s = inl refl
+
+  comes_second : (star : Bool) (x : Place) (w : Word) (p : Pos) (t : Token) (r s : List Token) → let c : Token = record { word = w; pos = p } in (call_comes (c ∷ t ∷ r) ≡ call_comes (c ∷ t ∷ s)) ⊎ BothGone star x (c ∷ t ∷ r) r
+  unfolding sees same_mark
+  comes_second star x (Mark m.Equal) p t r s = comes_name star x p t.word t.pos r s
+  comes_second star x w p t r s = inl refl
+
+  assigned_stmt_fine : (star : Bool) (x : Place) → Fine 0 (read.assigned_stmt ns n bodies star x)
+  unfolding read.assigned_stmt
+  assigned_stmt_fine star x = fine_look call_comes (gives_fine x) (simple_ended_fine (read.assigned ns n star x) (assigned_fine ns n star x)) comes_far
+      (λ t r s. comes_near star x t.word t.pos r s) (λ c t r s. comes_second star x c.word c.pos t r s)
+
+  placed_other : Fine 1 (λ ts. (read.place ns n >>= read.assigned_stmt ns n bodies (begins_with_star ts)) ts)
+  placed_other = fine_ahead begins_with_star (star_ahead ns n) (λ star. read.place ns n >>= read.assigned_stmt ns n bodies star) (λ star. fine_first (place_fine ns n) (assigned_stmt_fine star))
+
+  placed_fine : Fine 1 (read.placed ns n bodies)
+  unfolding read.placed read.call_stmt
+  placed_fine = call_or_fine ns n (read.call_stmt ns n bodies) (λ ts. (read.place ns n >>= read.assigned_stmt ns n bodies (begins_with_star ts)) ts) call_stmt_fine placed_other
+      (λ w at us. shrink_then {j = 0} {k = 0} 0 (omega arith) (λ c. (fine_then (fine_expect m.Semicolon) (λ p. fine_pure (s.Call c))).shrinks) us (call_gone ns n w at us))
+      (λ w at us. shrink_then {j = 0} {k = 0} 0 (omega arith) (λ x. (assigned_stmt_fine false x).shrinks) us (name_place ns n w at us))
+
+  if_with_fine : (p : Pos) (c : Expr) (a : Stmt) → Fine 0 (read.if_with ns n bodies p c a)
+  if_with_fine p c a = fine_if begins_with_else else_ahead (fine_then fine_takes (λ q. fine_then deeper.stmt (λ b. fine_pure (s.IfElse p c a b)))) (fine_pure (s.If p c a))
+
+  if_fine : Fine 1 (read.if_stmt ns n bodies)
+  unfolding read.if_stmt
+  if_fine = fine_first fine_takes (λ p. fine_then (condition_fine ns n) (λ c. fine_then deeper.stmt (λ a. if_with_fine p c a)))
+
+  while_fine : Fine 1 (read.while_stmt ns n bodies)
+  unfolding read.while_stmt
+  while_fine = fine_first fine_takes (λ p. fine_then (condition_fine ns n) (λ c. fine_then deeper.stmt (λ a. fine_pure (s.While p c a))))
+
+  while_by_fine : (o : Option Keyword) → Fine 1 (read.while_by ns n bodies o)
+  while_by_fine (Some k.While) = fine_takes
+  while_by_fine o = fine_refuse 1
+
+  expect_while_fine : Fine 1 (read.expect_while ns n bodies)
+  unfolding read.expect_while
+  expect_while_fine = fine_ahead key_at key_ahead (read.while_by ns n bodies) while_by_fine
+
+  do_fine : Fine 1 (read.do_stmt ns n bodies)
+  unfolding read.do_stmt
+  do_fine = fine_first fine_takes (λ p. fine_then deeper.stmt (λ a. fine_then expect_while_fine (λ q. fine_then (condition_fine ns n) (λ c. fine_then (fine_expect m.Semicolon) (λ r. fine_pure (s.DoWhile p a c))))))
+
+  for_fine : Fine 1 (read.for_stmt ns n bodies)
+  unfolding read.for_stmt
+  for_fine =
+      fine_first fine_takes (λ p.
+      fine_opens_then n m.OpenParen (λ i h o.
+      fine_then (fine_within (read.first_of ns) (first_of_fine ns) n i h) (λ f.
+      fine_then (fine_expect m.Semicolon) (λ q.
+      fine_then (fine_within (read.expr_before ns m.Semicolon) (expr_before_fine ns m.Semicolon) n i h) (λ c.
+      fine_then (fine_expect m.Semicolon) (λ r.
+      fine_then (fine_within (read.simple_before ns m.CloseParen) (simple_before_fine ns m.CloseParen) n i h) (λ x.
+      fine_then (fine_expect m.CloseParen) (λ t.
+      fine_then deeper.stmt (λ a.
+      fine_pure (s.For p f c x a))))))))))
+
+  switch_fine : Fine 1 (read.switch_stmt ns n bodies)
+  unfolding read.switch_stmt
+  switch_fine =
+      fine_first fine_takes (λ p.
+      fine_then (condition_fine ns n) (λ c.
+      fine_opens_then n m.OpenBrace (λ i h o.
+      fine_then (deeper.groups i h) (λ gs.
+      fine_then (fine_expect m.CloseBrace) (λ q.
+      fine_pure (s.Switch p c gs))))))
+
+  break_fine : Fine 1 (read.break ns n bodies)
+  unfolding read.break
+  break_fine = fine_first fine_takes (λ p. fine_then (fine_expect m.Semicolon) (λ q. fine_pure (s.Break p)))
+
+  return_fine : Fine 1 (read.return ns n bodies)
+  unfolding read.return
+  return_fine = fine_first fine_takes (λ p. fine_then (expr_before_fine ns m.Semicolon n) (λ a. fine_then (fine_expect m.Semicolon) (λ q. fine_pure (s.Return p a))))
+
+  mark_stmt_fine : (o : Option Punct) → Fine 1 (read.mark_stmt ns n bodies o)
+  mark_stmt_fine (Some m.OpenBrace) = block_fine
+  mark_stmt_fine (Some m.Semicolon) = empty_fine
+  mark_stmt_fine (Some m.PlusPlus) = simple_ended_fine (read.simple ns n) (simple_fine ns n)
+  mark_stmt_fine (Some m.MinusMinus) = simple_ended_fine (read.simple ns n) (simple_fine ns n)
+  mark_stmt_fine o = placed_fine
+
+  stmt_by_fine : (o : Option Keyword) → Fine 1 (read.stmt_by ns n bodies o)
+  stmt_by_fine None = fine_ahead mark_at mark_ahead (read.mark_stmt ns n bodies) mark_stmt_fine
+  stmt_by_fine (Some k.If) = if_fine
+  stmt_by_fine (Some k.While) = while_fine
+  stmt_by_fine (Some k.Do) = do_fine
+  stmt_by_fine (Some k.For) = for_fine
+  stmt_by_fine (Some k.Switch) = switch_fine
+  stmt_by_fine (Some k.Break) = break_fine
+  stmt_by_fine (Some k.Return) = return_fine
+  stmt_by_fine (Some k.WaitForClock) = ended_fine (read.bare n d.Wait) (bare_fine n d.Wait)
+  stmt_by_fine (Some k.Partition) = ended_fine (read.bare n d.Partition) (bare_fine n d.Partition)
+  stmt_by_fine (Some k.KnownFact) = ended_fine (read.with_expr ns n d.KnownFact) (with_expr_fine ns n d.KnownFact)
+  stmt_by_fine (Some k.Assert) = ended_fine (read.with_expr ns n d.Assert) (with_expr_fine ns n d.Assert)
+  stmt_by_fine (Some w) = fine_refuse 1
+
+  stmt_fine : Fine 1 (read.stmt ns n bodies)
+  unfolding read.stmt
+  stmt_fine = fine_ahead key_at key_ahead (read.stmt_by ns n bodies) stmt_by_fine
+
+  block_item_fine : (one : Parser Stmt) → Fine 1 one → Fine 1 (read.block_item ns n bodies one)
+  unfolding read.block_item
+  block_item_fine one each = fine_if (begins_type ns) (type_ahead ns) (fine_first (local_fine ns n) (λ l. fine_pure (item.Local l))) (fine_first each (λ a. fine_pure (item.Stmt a)))
+
+  close_ahead : Ahead (read.no_close)
+  unfolding sees
+  close_ahead t r s = refl
+
+  block_items_fine : (one : Parser Stmt) → Fine 1 one → Fine 0 (read.block_items ns n bodies one)
+  unfolding read.block_items
+  block_items_fine one each = fine_many read.no_close close_ahead (block_item_fine one each)
+
+  goes_on_ahead : Ahead (read.goes_on ns n bodies)
+  unfolding sees
+  goes_on_ahead t r s = refl
+
+  a_group_fine : Fine 1 (read.a_group ns n bodies)
+  unfolding read.a_group
+  a_group_fine = fine_first (a_label_fine ns n) (λ l. fine_then (fine_many begins_with_label label_ahead (a_label_fine ns n)) (λ ls. fine_then (fine_many (read.goes_on ns n bodies) goes_on_ahead deeper.stmt) (λ ss. fine_pure (tree.group (l ∷ ls) ss))))
+
+  groups_fine : Fine 0 (read.groups ns n bodies)
+  unfolding read.groups
+  groups_fine = fine_many begins_with_label label_ahead a_group_fine
+
+begins_ahead : (ns : Names) → Ahead (read.begins_stmt ns)
+unfolding read.begins_stmt key_at mark_at name_at
+begins_ahead ns t r s = refl
