@@ -22,7 +22,7 @@ use Rattle.sa_syntax.specs.Words.{Names, mark, key, word, literal, is_through, p
 use Rattle.sa_syntax.specs.Reading.{Parser, Read, Got, Stuck, Deep, and_then, same_mark, sees, after, expect, opens_any, opens, any_name, variable, name_at, key_at, mark_at, taken, many, turns, while_from, pure, ◌>>=◌, ◌>>◌}
 use Rattle.sa_syntax.specs.ReadExpr as read
 use Rattle.sa_syntax.specs.ReadExpr.{Inner, inside}
-use Rattle.sa_syntax.proofs.DeepLemmas.{Shrinks, Local, shrink_then, shrink_cond, local_cond, same_first, variable_gone, loosen_read, Fine, Ahead, beyond, loosen, fine_then, fine_first, fine_next, fine_pure, fine_refuse, fine_ahead, fine_if, fine_after, fine_takes, fine_taken, fine_any_name, fine_variable, fine_expect, fine_opens, fine_opens_then, fine_opens_any_then, fine_many, sees_ahead, name_ahead, key_ahead, mark_ahead}
+use Rattle.sa_syntax.proofs.DeepLemmas.{Shrinks, Local, shrink_then, shrink_cond, local_cond, same_first, variable_gone, any_name_gone, loosen_read, Fine, Ahead, beyond, loosen, fine_then, fine_first, fine_next, fine_pure, fine_refuse, fine_ahead, fine_if, fine_after, fine_takes, fine_taken, fine_any_name, fine_variable, fine_expect, fine_opens, fine_opens_then, fine_opens_any_then, fine_many, sees_ahead, name_ahead, key_ahead, mark_ahead}
 
 -- the readers one deeper, where there is room for them
 pub record IsFine (ns : Names) (inner : Inner) : Type 0 where
@@ -389,6 +389,10 @@ module _ (ns : Names) (n : ℕ) (inner : Inner) (deeper : (i : ℕ) → n ≡ su
 
   star_whole : (p : Pos) (us ts : List Token) → Shrinks 0 ts (variable ns us) → Shrinks 0 ts (read.whole ns n inner (mark m.Star p ∷ us))
   star_whole p us ts v = front_whole (mark m.Star p ∷ us) ts (star_unary p us ts v)
+
+  pub declr_gone : (t : Token) (us : List Token) → Shrinks 0 us (read.declr ns n inner (t ∷ us))
+  unfolding read.declr
+  declr_gone t us = shrink_then {j = 0} {k = 0} 0 (omega arith) (λ x. (fine_then (fine_many (sees m.OpenBracket) (sees_ahead m.OpenBracket) (a_bound_fine ns n inner deeper)) (λ bs. fine_pure (tree.declr x bs))).shrinks) us (any_name_gone t us)
 
   -- a name at the front
   pub name_place : (w : List ℕ) (p : Pos) (us : List Token) → Shrinks 0 us (read.place ns n inner (word w p ∷ us))

@@ -165,6 +165,10 @@ pub variable_gone : (ns : Names) (t : Token) (ts : List Token) → Shrinks 0 ts 
 unfolding variable
 variable_gone ns t ts = taken_gone (unless_type ns (name_at (t ∷ ts))) t ts
 
+pub any_name_gone : (t : Token) (ts : List Token) → Shrinks 0 ts (any_name (t ∷ ts))
+unfolding any_name
+any_name_gone t ts = taken_gone (name_at (t ∷ ts)) t ts
+
 expect_shrinks : (x : Bool) (t : Token) (ts : List Token) → Shrinks 1 (t ∷ ts) (cond x (Got t.pos ts) (Stuck (t ∷ ts)))
 expect_shrinks true t ts = Shrinks.got (t ∷ []) refl (omega arith)
 expect_shrinks false t ts = Shrinks.stuck
@@ -271,7 +275,7 @@ pub fine_many : {A : Type 0} (goes : List Token → Bool) → Ahead goes → {it
 fine_many goes same {item} one = record { shrinks = λ ts. shrink_while goes item one (turns ts) [] ts; local = λ b t r s. local_while goes same item one (turns (b ++ t ∷ r)) (turns (b ++ t ∷ s)) [] b t r s (omega arith) }
 
 -- with a mark after each
-shrink_after : {A : Type 0} {k : ℕ} (ts : List Token) {x : Read A} → Shrinks k (after ts) x → Shrinks 0 ts x
+pub shrink_after : {A : Type 0} {k : ℕ} (ts : List Token) {x : Read A} → Shrinks k (after ts) x → Shrinks 0 ts x
 shrink_after [] one = loosen_read one
 shrink_after (t ∷ ts) one = behind 0 (t ∷ ts) (t ∷ []) ts refl (omega arith) one
 
@@ -305,6 +309,27 @@ local_list {k = k} close one fine (suc n) (suc more) found b t r s h =
 
 pub fine_list : {A : Type 0} {k : ℕ} (close : Punct) {one : Parser A} → Fine k one → Fine k (list close one)
 fine_list close {one} fine = record { shrinks = λ ts. shrink_list close one fine (turns ts) [] ts; local = λ b t r s. local_list close one fine (turns (b ++ t ∷ r)) (turns (b ++ t ∷ s)) [] b t r s (omega arith) }
+
+-- what the first item takes is taken
+pub list_front : {A : Type 0} {k : ℕ} (close : Punct) (one : Parser A) → Fine k one → (ts us : List Token) → Shrinks 0 us (one ts) → Shrinks 0 us (list close one ts)
+unfolding list_from
+list_front close one fine ts us v = shrink_then {j = 0} {k = 0} 0 (omega arith)
+    (λ x vs. shrink_cond (sees m.Comma vs) (shrink_after vs (shrink_list close one fine (length ts) (x ∷ []) (after vs))) ((ends_fine close (x ∷ [])).shrinks vs)) us v
+
+-- a mark that is taken, or something else
+mark_or_shrinks : {A : Type 0} (mk : Punct) (a : A) (q : Parser A) → Fine 1 q → (ts : List Token) → Shrinks 1 ts (cond (sees mk ts) (Got a (after ts)) (q ts))
+unfolding sees
+mark_or_shrinks mk a q other [] = other.shrinks []
+mark_or_shrinks mk a q other (t ∷ ts) = shrink_cond (is_mark mk t.word) (Shrinks.got (t ∷ []) refl (omega arith)) (other.shrinks (t ∷ ts))
+
+mark_or_local : {A : Type 0} (mk : Punct) (a : A) (q : Parser A) → Fine 1 q → (b : List Token) (t : Token) (r s : List Token)
+    → Local t r s (cond (sees mk (b ++ t ∷ r)) (Got a (after (b ++ t ∷ r))) (q (b ++ t ∷ r))) (cond (sees mk (b ++ t ∷ s)) (Got a (after (b ++ t ∷ s))) (q (b ++ t ∷ s)))
+unfolding sees
+mark_or_local mk a q other [] t r s = local_cond (is_mark mk t.word) (is_mark mk t.word) refl (Local.gone (omega arith)) (other.local [] t r s)
+mark_or_local mk a q other (c ∷ b) t r s = local_cond (is_mark mk c.word) (is_mark mk c.word) refl (Local.got b) (other.local (c ∷ b) t r s)
+
+pub fine_mark_or : {A : Type 0} (mk : Punct) (a : A) (q : Parser A) → Fine 1 q → Fine 1 (λ ts. cond (sees mk ts) (Got a (after ts)) (q ts))
+fine_mark_or mk a q other = record { shrinks = mark_or_shrinks mk a q other; local = mark_or_local mk a q other }
 
 pub fine_within : {A : Type 0} {k : ℕ} (p : ℕ → Parser A) → ((n : ℕ) → Fine k (p n)) → (n i : ℕ) → n ≡ suc i → Fine k (within p n)
 fine_within p each zero i h = cc

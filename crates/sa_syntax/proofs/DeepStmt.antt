@@ -56,7 +56,7 @@ module _ (ns : Names) (n : ℕ) where
   place_fine : Fine 1 (read.place ns n)
   place_fine = fine.place_fine ns n (inside ns n) (inside_fine ns n)
 
-  specifiers_fine : Fine 0 (read.specifiers ns n)
+  pub specifiers_fine : Fine 0 (read.specifiers ns n)
   specifiers_fine = fine.specifiers_fine ns n (inside ns n) (inside_fine ns n)
 
   declr_fine : Fine 1 (read.declr ns n)
@@ -126,10 +126,16 @@ init_at_fine ns zero = init_by_fine ns zero (λ ts. Deep ts) (λ i h. cc)
 init_at_fine ns (suc n) = init_by_fine ns (suc n) (read.init_at ns n) (λ i h. init_at_fine ns n)
 
 module _ (ns : Names) (n : ℕ) where
-  init_declr_fine : Fine 1 (read.init_declr ns n)
+  pub init_declr_fine : Fine 1 (read.init_declr ns n)
   unfolding read.init_declr
   init_declr_fine = fine_first (declr_fine ns n) (λ x.
       fine_if (sees m.Equal) (sees_ahead m.Equal) (fine_then (fine_expect m.Equal) (λ p. fine_then (init_at_fine ns n) (λ i. fine_pure (tree.init_declr x (start.Init p i))))) (fine_pure (tree.init_declr x start.Nothing)))
+
+  pub init_declr_gone : (t : Token) (us : List Token) → Shrinks 0 us (read.init_declr ns n (t ∷ us))
+  unfolding read.init_declr
+  init_declr_gone t us = shrink_then {j = 0} {k = 0} 0 (omega arith) (λ x. (
+      fine_if (sees m.Equal) (sees_ahead m.Equal) (fine_then (fine_expect m.Equal) (λ p. fine_then (init_at_fine ns n) (λ i. fine_pure (tree.init_declr x (start.Init p i))))) (fine_pure (tree.init_declr x start.Nothing))).shrinks) us
+      (fine.declr_gone ns n (inside ns n) (inside_fine ns n) t us)
 
   -- ---- calls
   arg_value_fine : Fine 0 (read.arg_value ns n)
@@ -499,7 +505,7 @@ module _ (ns : Names) (n : ℕ) (bodies : Bodies) (deeper : IsFine n bodies) whe
   stmt_by_fine (Some k.Assert) = ended_fine (read.with_expr ns n d.Assert) (with_expr_fine ns n d.Assert)
   stmt_by_fine (Some w) = fine_refuse 1
 
-  stmt_fine : Fine 1 (read.stmt ns n bodies)
+  pub stmt_fine : Fine 1 (read.stmt ns n bodies)
   unfolding read.stmt
   stmt_fine = fine_ahead key_at key_ahead (read.stmt_by ns n bodies) stmt_by_fine
 
@@ -511,7 +517,7 @@ module _ (ns : Names) (n : ℕ) (bodies : Bodies) (deeper : IsFine n bodies) whe
   unfolding sees
   close_ahead t r s = refl
 
-  block_items_fine : (one : Parser Stmt) → Fine 1 one → Fine 0 (read.block_items ns n bodies one)
+  pub block_items_fine : (one : Parser Stmt) → Fine 1 one → Fine 0 (read.block_items ns n bodies one)
   unfolding read.block_items
   block_items_fine one each = fine_many read.no_close close_ahead (block_item_fine one each)
 
@@ -523,10 +529,10 @@ module _ (ns : Names) (n : ℕ) (bodies : Bodies) (deeper : IsFine n bodies) whe
   unfolding read.a_group
   a_group_fine = fine_first (a_label_fine ns n) (λ l. fine_then (fine_many begins_with_label label_ahead (a_label_fine ns n)) (λ ls. fine_then (fine_many (read.goes_on ns n bodies) goes_on_ahead deeper.stmt) (λ ss. fine_pure (tree.group (l ∷ ls) ss))))
 
-  groups_fine : Fine 0 (read.groups ns n bodies)
+  pub groups_fine : Fine 0 (read.groups ns n bodies)
   unfolding read.groups
   groups_fine = fine_many begins_with_label label_ahead a_group_fine
 
-begins_ahead : (ns : Names) → Ahead (read.begins_stmt ns)
+pub begins_ahead : (ns : Names) → Ahead (read.begins_stmt ns)
 unfolding read.begins_stmt key_at mark_at name_at
 begins_ahead ns t r s = refl

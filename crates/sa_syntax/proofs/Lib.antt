@@ -19,4 +19,5 @@ pub mod UnitComplete
 pub mod DeepLemmas
 pub mod DeepExpr
 pub mod DeepStmt
+pub mod DeepUnit
 pub mod Samples
