@@ -23,6 +23,7 @@ use Rattle.sa_syntax.specs.Trees as tree
 use Rattle.sa_syntax.specs.Words.{Names, mark, key, word, is_void_alone}
 use Rattle.sa_syntax.specs.Statements.{all_named, Tree}
 use Rattle.sa_syntax.specs.Reading.{Parser, Read, Got, Stuck, Deep, and_then, sees, after, expect, opens, any_name, name_at, key_at, mark_at, many, turns, pure, ◌>>=◌, ◌>>◌}
+use Rattle.sa_syntax.specs.Refusals.{GoesTooDeep}
 use Rattle.sa_syntax.specs.ReadExpr.{is_some, inside}
 use Rattle.sa_syntax.specs.ReadExpr as expr
 use Rattle.sa_syntax.specs.ReadStmt as read
@@ -219,3 +220,9 @@ none_within n before t behind tail u e h =
     let same : (before ++ t ∷ []) ++ tail ≡ before ++ t ∷ tail = append_assoc before (t ∷ []) tail in
     no_tree (read.source n (before ++ t ∷ behind)) (read.source n (before ++ t ∷ tail)) ((source_fine n).local before t behind tail) e
     (source-complete n (before ++ t ∷ tail) u (subst (λ z. Tree n z u) same h))
+
+pub told_depth : (n : ℕ) (ts us : List Token) → read.source n ts ≡ Deep us → (d : GoesTooDeep n ts) × (us ≡ d.token ∷ d.after)
+told_depth n ts us e =
+    let f = deep_front (read.source n ts) ((source_fine n).shrinks ts) e in
+    let at : read.source n (f.0 ++ f.1 ∷ f.2) ≡ Deep (f.1 ∷ f.2) = subst (λ z. read.source n z ≡ Deep (f.1 ∷ f.2)) f.4 (e ∙ ap Deep f.3) in
+    (record { before = f.0; token = f.1; after = f.2; is = f.4; none = λ tail u. none_within n f.0 f.1 f.2 tail u at }, f.3)

@@ -20,4 +20,5 @@ pub mod DeepLemmas
 pub mod DeepExpr
 pub mod DeepStmt
 pub mod DeepUnit
+pub mod ClosingLemmas
 pub mod Samples

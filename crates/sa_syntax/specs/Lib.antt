@@ -9,3 +9,4 @@ pub mod SoundLaws
 pub mod ExprLaws
 pub mod StmtLaws
 pub mod Refusals
+pub mod RefusalLaws

@@ -1,5 +1,5 @@
 -- When a text of tokens is refused.
-use Rattle.std.specs.Prelude.{ℕ, ◌≡◌, ◌⊎◌, List, [], ◌∷◌}
+use Rattle.std.specs.Prelude.{ℕ, ◌≡◌, ◌⊎◌, List, [], ◌∷◌, ◌++◌}
 use Rattle.sa_base.specs.declared.pos.Pos.{Pos}
 use Rattle.sa_tokens.specs.declared.token.Token.{Token}
 use Rattle.sa_syntax.specs.declared.unit.Unit.{Unit as Source}
@@ -22,6 +22,13 @@ abbrev pub IsPlaceOf : Pos → List Token → Pos → Type 0
 IsPlaceOf end [] p = p ≡ end
 IsPlaceOf end (t ∷ ts) p = (p ≡ t.pos) ⊎ IsPlaceOf end ts p
 
--- the tokens have no tree in which no more may be open
+-- More than `n` are open at a token: no text that begins with the tokens up to it has a tree in which no more is open.
+pub record GoesTooDeep (n : ℕ) (ts : List Token) : Type 0 where
+  pub before : List Token
+  pub token : Token
+  pub after : List Token
+  pub is : ts ≡ before ++ token ∷ after
+  pub none : (tail : List Token) (u : Source) → Tree n ((before ++ token ∷ []) ++ tail) u → ⊥
+
 abbrev pub IsTooDeep : List Token → Type 0
-IsTooDeep ts = (u : Source) → IsSource ts u → ⊥
+IsTooDeep ts = GoesTooDeep most_open ts

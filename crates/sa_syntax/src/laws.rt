@@ -2,6 +2,7 @@
 
 ghost use Rattle.sa_syntax.specs.SoundLaws.{MoreRoomReadsTheSame, MoreRoomReadsTheSameSource, ReadingsAreExpressions, ReadingsAreSources};
 ghost use Rattle.sa_syntax.specs.ExprLaws.{ReadsExpressions, ReadsPlaces, ReadsTypes, ReadsDeclrs};
+ghost use Rattle.sa_syntax.specs.RefusalLaws.{TellsDepth};
 ghost use Rattle.sa_syntax.specs.StmtLaws.{ReadsStatements, ReadsSources, HasOneTree};
 
 /// What is read as an expression is one by the grammar.
@@ -57,4 +58,9 @@ pub fn reads_sources()
 /// The tokens of a source have at most one tree, however much may be open.
 pub fn has_one_tree()
     ensures { HasOneTree }
+{}
+
+/// A source that is refused for depth is too deep at the token that is told.
+pub fn tells_depth()
+    ensures { TellsDepth }
 {}

@@ -1,0 +1,5 @@
+use Rattle.sa_syntax.proofs.DeepUnit.{told_depth}
+use Rattle.sa_syntax.proofs.laws.tells_depth.Goals as goal
+
+pub returns : goal.returns
+returns c = told_depth

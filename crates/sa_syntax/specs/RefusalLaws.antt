@@ -1,0 +1,10 @@
+-- What the refusals of the reader say.
+use Rattle.std.specs.Prelude.{ℕ, ◌≡◌, List, ◌∷◌}
+use Rattle.sa_tokens.specs.declared.token.Token.{Token}
+use Rattle.sa_syntax.specs.Reading.{Deep}
+use Rattle.sa_syntax.specs.ReadStmt.{source}
+use Rattle.sa_syntax.specs.Refusals.{GoesTooDeep}
+
+-- What is refused for depth is too deep at the token that is told.
+abbrev pub TellsDepth : Type 0
+TellsDepth = (n : ℕ) (ts us : List Token) → source n ts ≡ Deep us → (d : GoesTooDeep n ts) × (us ≡ d.token ∷ d.after)
