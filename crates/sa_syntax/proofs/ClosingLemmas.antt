@@ -9,9 +9,9 @@ use Rattle.sa_tokens.specs.declared.token.Token.{Token}
 use Rattle.sa_syntax.specs.Words.{Names, mark}
 use Rattle.sa_syntax.specs.Reading.{Read, Got, Stuck, Deep, Parser, and_then, is_mark, sees, after, expect, any_name, variable, name_at, unless_type, taken, opens_any, opens, turns, while_from, many, ◌>>=◌}
 use Rattle.sa_syntax.specs.ReadStmt.{takes}
-use Rattle.sa_syntax.proofs.ReadingLemmas.{Yields, yielded, if_yields, Marked, sees_is, expect_yields, IsWord, any_name_yields, IsVariable, variable_yields}
-use Rattle.sa_syntax.proofs.RoomLemmas.{Less, less_if}
-use Rattle.sa_syntax.proofs.DeepLemmas.{Shrinks, Local, Fine, Ahead, loosen, fine_if, fine_refuse, fine_expect, fine_any_name, fine_variable}
+use Rattle.sa_syntax.proofs.ReadingLemmas.{Yields, yielded, if_yields, Marked, sees_is, expect_yields, Opened, opens_yields, IsWord, any_name_yields, IsVariable, variable_yields}
+use Rattle.sa_syntax.proofs.RoomLemmas.{Less, less_if, less_opens}
+use Rattle.sa_syntax.proofs.DeepLemmas.{Shrinks, Local, Fine, Ahead, loosen, fine_if, fine_refuse, fine_expect, fine_any_name, fine_variable, fine_opens}
 
 -- where the answer is `Deep`, some text goes on from the token that it shows
 pub data Closed {A : Type 0} (O : Token → Type 0) (R : ℕ → List Token → List Token → Type 0) (n : ℕ) (ts : List Token) : Read A → Type 0 where
@@ -243,3 +243,21 @@ good_any_name = good_leaf fine_any_name any_name_yields
 
 pub good_variable : (ns : Names) → Good (λ _. variable ns) (λ _ ts x us. IsVariable ns ts x us)
 good_variable ns = good_leaf (fine_variable ns) (variable_yields ns)
+
+opens_read : {O : Token → Type 0} (n : ℕ) (mk : Punct) (ts : List Token) (p : Pos) (us : List Token) → Marked mk ts p us → ((p : Pos) → O (mark mk p)) → Closed O (Some' (λ more ss p vs. Opened mk more ss p vs)) n ts (opens_any n ts)
+unfolding opens_any
+opens_read zero mk _ p us Marked.marked o = Closed.deep [] [] 1 refl (omega arith) (o p) (λ rest. (p, Opened.opened))
+opens_read (suc n) mk _ p us Marked.marked o = Closed.got
+
+pub opens_closed : {O : Token → Type 0} (n : ℕ) (mk : Punct) (ts : List Token) → ((p : Pos) → O (mark mk p)) → Closed O (Some' (λ more ss p vs. Opened mk more ss p vs)) n ts (opens n mk ts)
+unfolding opens
+opens_closed n mk ts o = closed_if (sees mk ts) (λ h. let k = sees_is mk ts h in opens_read n mk ts (k.0) (after ts) (k.1) o) (λ h. Closed.stuck)
+
+pub good_opens : (mk : Punct) → Good (λ n. opens n mk) (λ n ts p us. Opened mk n ts p us)
+good_opens mk = record { fine = λ n. loosen (fine_opens n mk); less = λ n more h ts. less_opens n more h mk ts; sound = λ n ts. opens_yields n mk ts }
+
+-- behind a token that is there
+pub stepped : {A : Type 0} {O : Token → Type 0} {R : ℕ → List Token → List Token → Type 0} {n : ℕ} (t : Token) {us : List Token} {y : Read A} → Closed O (λ more vs rest. R more (t ∷ vs) rest) n us y → Closed O R n (t ∷ us) y
+stepped t Closed.got = Closed.got
+stepped t Closed.stuck = Closed.stuck
+stepped t (Closed.deep b tail more e h o w) = Closed.deep (t ∷ b) tail more (ap (λ z. t ∷ z) e) h o w

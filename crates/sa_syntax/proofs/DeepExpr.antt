@@ -42,11 +42,11 @@ qualifier_fine : Fine 1 read.qualifier
 unfolding read.qualifier key_at
 qualifier_fine = fine_taken (λ ts. read.qualified_at (read.qualifier_in (key_at ts)) ts) (λ t r s. qualified_ahead (read.qualifier_in (key_at (t ∷ r))) t r s) refl
 
-scalar_word_fine : Fine 1 read.scalar_word
+pub scalar_word_fine : Fine 1 read.scalar_word
 unfolding read.scalar_word key_at
 scalar_word_fine = fine_taken (λ ts. read.scalar_in (key_at ts)) (λ t r s. refl) refl
 
-operator_fine : Fine 1 read.operator
+pub operator_fine : Fine 1 read.operator
 unfolding read.operator mark_at
 operator_fine = fine_taken (λ ts. read.operator_in (mark_at ts)) (λ t r s. refl) refl
 
@@ -54,7 +54,7 @@ pub qualifiers_fine : Fine 0 (many read.sees_qualifier read.qualifier)
 unfolding read.sees_qualifier key_at
 qualifiers_fine = fine_many read.sees_qualifier (λ t r s. refl) qualifier_fine
 
-scalars_fine : Fine 0 (many read.sees_scalar read.scalar_word)
+pub scalars_fine : Fine 0 (many read.sees_scalar read.scalar_word)
 unfolding read.sees_scalar key_at
 scalars_fine = fine_many read.sees_scalar (λ t r s. refl) scalar_word_fine
 
@@ -62,11 +62,11 @@ pub type_ahead : (ns : Names) → Ahead (read.begins_type ns)
 unfolding read.begins_type read.sees_qualifier read.sees_scalar key_at name_at
 type_ahead ns t r s = refl
 
-step_ahead : Ahead read.sees_step
+pub step_ahead : Ahead read.sees_step
 unfolding sees
 step_ahead t r s = refl
 
-operator_ahead : (l : ℕ) → Ahead (read.sees_operator l)
+pub operator_ahead : (l : ℕ) → Ahead (read.sees_operator l)
 unfolding read.sees_operator mark_at
 operator_ahead l t r s = refl
 
@@ -85,7 +85,7 @@ module _ (ns : Names) (n : ℕ) (inner : Inner) (deeper : (i : ℕ) → n ≡ su
   step_by_fine (Some m.Arrow) = fine_first (fine_expect m.Arrow) (λ p. fine_first fine_any_name (λ x. fine_pure (step.Arrow p x)))
   step_by_fine o = fine_refuse 1
 
-  a_step_fine : Fine 1 (read.a_step ns n inner)
+  pub a_step_fine : Fine 1 (read.a_step ns n inner)
   unfolding read.a_step
   a_step_fine = fine_ahead mark_at mark_ahead (read.step_by ns n inner) step_by_fine
 
@@ -125,11 +125,11 @@ module _ (ns : Names) (n : ℕ) (inner : Inner) (deeper : (i : ℕ) → n ≡ su
   unfolding read.body
   body_fine tag = fine_opens_then n m.OpenBrace (λ i h p. fine_then ((deeper i h).fields) (λ fs. fine_then (fine_expect m.CloseBrace) (λ q. fine_pure (b.Struct (tree.structure tag fs)))))
 
-  type_name_fine : Fine 1 (read.type_name ns n inner)
+  pub type_name_fine : Fine 1 (read.type_name ns n inner)
   unfolding read.type_name name_at
   type_name_fine = fine_if (λ ts. read.is_type_at ns (name_at ts)) (λ t r s. refl) (fine_first fine_any_name (λ x. fine_pure (b.Named x))) (fine_refuse 1)
 
-  a_bound_fine : Fine 1 (read.a_bound ns n inner)
+  pub a_bound_fine : Fine 1 (read.a_bound ns n inner)
   unfolding read.a_bound
   a_bound_fine = fine_opens_then n m.OpenBracket (λ i h p. fine_then ((deeper i h).whole) (λ a. fine_then (fine_expect m.CloseBracket) (λ q. fine_pure (tree.bound p a))))
 
@@ -137,7 +137,7 @@ module _ (ns : Names) (n : ℕ) (inner : Inner) (deeper : (i : ℕ) → n ≡ su
   unfolding read.declr
   declr_fine = fine_first fine_any_name (λ x. fine_then (fine_many (sees m.OpenBracket) (sees_ahead m.OpenBracket) a_bound_fine) (λ bs. fine_pure (tree.declr x bs)))
 
-  next_declr_fine : Fine 1 (read.next_declr ns n inner)
+  pub next_declr_fine : Fine 1 (read.next_declr ns n inner)
   unfolding read.next_declr
   next_declr_fine = fine_first (fine_expect m.Comma) (λ p. declr_fine)
 
@@ -171,11 +171,11 @@ module _ (ns : Names) (n : ℕ) (inner : Inner) (deeper : (i : ℕ) → n ≡ su
   specifiers_fine = fine_ahead tree.pos_of place_ahead (λ p. many read.sees_qualifier read.qualifier >>= (λ qs. read.base ns n inner >>= (λ t. pure (tree.specifiers p qs t))))
       (λ p. fine_then qualifiers_fine (λ qs. fine_then base_fine (λ t. fine_pure (tree.specifiers p qs t))))
 
-  field_fine : Fine 1 (read.field ns n inner)
+  pub field_fine : Fine 1 (read.field ns n inner)
   unfolding read.field
   field_fine = fine_next specifiers_fine (λ t. fine_first declrs_fine (λ ds. fine_first (fine_expect m.Semicolon) (λ p. fine_pure (tree.field t ds))))
 
-  no_brace_ahead : Ahead (read.no_brace ns n inner)
+  pub no_brace_ahead : Ahead (read.no_brace ns n inner)
   unfolding sees
   no_brace_ahead t r s = refl
 
@@ -225,7 +225,7 @@ module _ (ns : Names) (n : ℕ) (inner : Inner) (deeper : (i : ℕ) → n ≡ su
   choice_or_fine : (c : Expr) → Fine 0 (read.choice_or ns n inner c)
   choice_or_fine c = fine_if (sees m.Question) (sees_ahead m.Question) (loosen (choice_fine c)) (fine_pure c)
 
-  a_link_fine : (operand : Parser Expr) → Fine 0 operand → Fine 1 (read.a_link ns n inner operand)
+  pub a_link_fine : (operand : Parser Expr) → Fine 0 operand → Fine 1 (read.a_link ns n inner operand)
   unfolding read.a_link
   a_link_fine operand one = fine_ahead tree.pos_of place_ahead (λ p. read.operator >>= (λ op. operand >>= (λ a. pure (tree.link op p a))))
       (λ p. fine_first operator_fine (λ op. fine_then one (λ a. fine_pure (tree.link op p a))))

@@ -34,7 +34,7 @@ module _ (ns : Names) (n more : ℕ) (inner wide : Inner) (room : n ≤ more) (d
   step_by_room (Some m.OpenBracket) ts = index_room ts
   step_by_room o ts = Less.same
 
-  a_step_room : (ts : List Token) → Less (read.a_step ns n inner ts) (read.a_step ns more wide ts)
+  pub a_step_room : (ts : List Token) → Less (read.a_step ns n inner ts) (read.a_step ns more wide ts)
   unfolding read.a_step
   a_step_room ts = step_by_room (mark_at ts) ts
 
@@ -69,7 +69,7 @@ module _ (ns : Names) (n more : ℕ) (inner wide : Inner) (room : n ≤ more) (d
   place_room ts = place_by_room (mark_at ts) ts
 
   -- ---- types
-  a_bound_room : (ts : List Token) → Less (read.a_bound ns n inner ts) (read.a_bound ns more wide ts)
+  pub a_bound_room : (ts : List Token) → Less (read.a_bound ns n inner ts) (read.a_bound ns more wide ts)
   unfolding read.a_bound
   a_bound_room ts = less_then (less_opens n more room m.OpenBracket ts) (λ p us. less_then (deeper.whole us) (λ a vs. Less.same))
 
@@ -77,7 +77,7 @@ module _ (ns : Names) (n more : ℕ) (inner wide : Inner) (room : n ≤ more) (d
   unfolding read.declr
   declr_room ts = less_then (Less.same {r = any_name ts}) (λ x us. less_then (less_many (sees m.OpenBracket) (read.a_bound ns n inner) (read.a_bound ns more wide) a_bound_room us) (λ bs vs. Less.same))
 
-  next_declr_room : (ts : List Token) → Less (read.next_declr ns n inner ts) (read.next_declr ns more wide ts)
+  pub next_declr_room : (ts : List Token) → Less (read.next_declr ns n inner ts) (read.next_declr ns more wide ts)
   unfolding read.next_declr
   next_declr_room ts = less_then (Less.same {r = expect m.Comma ts}) (λ p us. declr_room us)
 
@@ -106,7 +106,7 @@ module _ (ns : Names) (n more : ℕ) (inner wide : Inner) (room : n ≤ more) (d
   base_by_room (Some w) ts = Less.same
   base_by_room None ts = type_name_room ts
 
-  base_room : (ts : List Token) → Less (read.base ns n inner ts) (read.base ns more wide ts)
+  pub base_room : (ts : List Token) → Less (read.base ns n inner ts) (read.base ns more wide ts)
   unfolding read.base
   base_room ts = base_by_room (key_at ts) ts
 
@@ -114,7 +114,7 @@ module _ (ns : Names) (n more : ℕ) (inner wide : Inner) (room : n ≤ more) (d
   unfolding read.specifiers
   specifiers_room ts = less_then (Less.same {r = many read.sees_qualifier read.qualifier ts}) (λ qs us. less_then (base_room us) (λ t vs. Less.same))
 
-  field_room : (ts : List Token) → Less (read.field ns n inner ts) (read.field ns more wide ts)
+  pub field_room : (ts : List Token) → Less (read.field ns n inner ts) (read.field ns more wide ts)
   unfolding read.field
   field_room ts = less_then (specifiers_room ts) (λ t us. less_then (declrs_room us) (λ ds vs. Less.same))
 
@@ -167,7 +167,7 @@ module _ (ns : Names) (n more : ℕ) (inner wide : Inner) (room : n ≤ more) (d
   unary_room [] = Less.same
   unary_room (t ∷ ts) = unary_by_room t.word t.pos ts
 
-  a_link_room : (operand other : Parser Expr) → ((ts : List Token) → Less (operand ts) (other ts)) → (ts : List Token) → Less (read.a_link ns n inner operand ts) (read.a_link ns more wide other ts)
+  pub a_link_room : (operand other : Parser Expr) → ((ts : List Token) → Less (operand ts) (other ts)) → (ts : List Token) → Less (read.a_link ns n inner operand ts) (read.a_link ns more wide other ts)
   unfolding read.a_link
   a_link_room operand other one ts = less_then (Less.same {r = read.operator ts}) (λ op us. less_then (one us) (λ a vs. Less.same))
 

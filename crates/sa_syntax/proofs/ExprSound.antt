@@ -70,7 +70,7 @@ qualifier_from (Some kw) ts x e h = qualifier_at ts kw x (key_at_is ts kw e) (qu
         let same : tree.qualified q p ≡ x = cc in
         subst (λ (y : Qualified). Qualifiers (key kw p ∷ us) (y ∷ qs) vs) same (Qualifiers.qualifier e more)
 
-qualifiers_sound : (ts : List Token) → Yields (λ qs us. Qualifiers ts qs us) (many read.sees_qualifier read.qualifier ts)
+pub qualifiers_sound : (ts : List Token) → Yields (λ qs us. Qualifiers ts qs us) (many read.sees_qualifier read.qualifier ts)
 unfolding read.qualifier
 qualifiers_sound = many_yields (λ ts qs us. Qualifiers ts qs us) read.sees_qualifier read.qualifier (λ us h. Qualifiers.no_qualifier)
     (λ ts h. taken_yields (read.qualified_at (read.qualifier_in (key_at ts)) ts) ts (λ x e. qualifier_from (key_at ts) ts x refl e))
@@ -92,7 +92,7 @@ scalar_words_sound : (ts : List Token) → Yields (λ ws us. ScalarWords ts ws u
 scalar_words_sound = many_yields (λ ts ws us. ScalarWords ts ws us) read.sees_scalar read.scalar_word (λ us h. ScalarWords.no_word) (λ ts h. scalar_word_sound ts)
 
 -- ---- operators
-data IsOperator (l : ℕ) : List Token → Operator → List Token → Type 0 where
+pub data IsOperator (l : ℕ) : List Token → Operator → List Token → Type 0 where
   is_operator : {mk : Punct} {p : Pos} {us : List Token} {op : Operator} → operator_of mk ≡ Some op → level_of op ≡ suc l → IsOperator l (mark mk p ∷ us) op us
 
 same_level : (l : ℕ) (o : Option Operator) (op : Operator) → o ≡ Some op → read.is_of_level l o ≡ true → level_of op ≡ l
@@ -106,7 +106,7 @@ operator_from l (Some mk) ts op e s h = let k = mark_at_is ts mk e in operator_a
     operator_at : (ts : List Token) (p : Pos) (us : List Token) → Marked mk ts p us → operator_of mk ≡ Some op → level_of op ≡ suc l → IsOperator l ts op us
     operator_at _ _ _ Marked.marked h level = IsOperator.is_operator h level
 
-operator_sound : (l : ℕ) (ts : List Token) → read.sees_operator (suc l) ts ≡ true → Yields (λ op us. IsOperator l ts op us) (read.operator ts)
+pub operator_sound : (l : ℕ) (ts : List Token) → read.sees_operator (suc l) ts ≡ true → Yields (λ op us. IsOperator l ts op us) (read.operator ts)
 unfolding read.operator read.sees_operator
 operator_sound l ts s = taken_yields (read.operator_in (mark_at ts)) ts (λ op e. operator_from l (mark_at ts) ts op refl s e)
 
@@ -116,7 +116,7 @@ module _ (ns : Names) (n : ℕ) (inner : Inner) (sound : IsSound ns n inner) whe
       → (ss : List Step) (xs : List Token) → Steps ns n ws ss xs → Steps ns n ts (step.Index p a ∷ ss) xs
   index_from _ _ _ _ a _ _ _ Opened.opened w Marked.marked ss xs more = Steps.index w more
 
-  index_sound : (ts : List Token) → Yields (λ s us. (ss : List Step) (vs : List Token) → Steps ns n us ss vs → Steps ns n ts (s ∷ ss) vs) (read.index ns n inner ts)
+  pub index_sound : (ts : List Token) → Yields (λ s us. (ss : List Step) (vs : List Token) → Steps ns n us ss vs → Steps ns n ts (s ∷ ss) vs) (read.index ns n inner ts)
   unfolding read.index
   index_sound ts =
       then_yields (opens_yields n m.OpenBracket ts) (λ p us o.
@@ -136,7 +136,7 @@ module _ (ns : Names) (n : ℕ) (inner : Inner) (sound : IsSound ns n inner) whe
   step_by_sound (Some m.Arrow) ts = then_yields (expect_yields m.Arrow ts) (λ p us d. then_yields (any_name_yields us) (λ x vs i. Yields.got (arrow_from ts p us x vs d i)))
   step_by_sound o ts = Yields.stuck
 
-  a_step_sound : (ts : List Token) → Yields (λ s us. (ss : List Step) (vs : List Token) → Steps ns n us ss vs → Steps ns n ts (s ∷ ss) vs) (read.a_step ns n inner ts)
+  pub a_step_sound : (ts : List Token) → Yields (λ s us. (ss : List Step) (vs : List Token) → Steps ns n us ss vs → Steps ns n ts (s ∷ ss) vs) (read.a_step ns n inner ts)
   unfolding read.a_step
   a_step_sound ts = step_by_sound (mark_at ts) ts
 
@@ -186,7 +186,7 @@ module _ (ns : Names) (n : ℕ) (inner : Inner) (sound : IsSound ns n inner) whe
       → (bs : List Bound) (xs : List Token) → Bounds ns n ws bs xs → Bounds ns n ts (tree.bound p a ∷ bs) xs
   bound_from _ _ _ _ a _ _ _ Opened.opened w Marked.marked bs xs more = Bounds.bound w more
 
-  a_bound_sound : (ts : List Token) → Yields (λ x us. (bs : List Bound) (vs : List Token) → Bounds ns n us bs vs → Bounds ns n ts (x ∷ bs) vs) (read.a_bound ns n inner ts)
+  pub a_bound_sound : (ts : List Token) → Yields (λ x us. (bs : List Bound) (vs : List Token) → Bounds ns n us bs vs → Bounds ns n ts (x ∷ bs) vs) (read.a_bound ns n inner ts)
   unfolding read.a_bound
   a_bound_sound ts =
       then_yields (opens_yields n m.OpenBracket ts) (λ p us o.
@@ -194,7 +194,7 @@ module _ (ns : Names) (n : ℕ) (inner : Inner) (sound : IsSound ns n inner) whe
       then_yields (expect_yields m.CloseBracket vs) (λ q ws c.
       Yields.got (bound_from n ts p us a vs q ws o w c))))
 
-  bounds_sound : (ts : List Token) → Yields (λ bs us. Bounds ns n ts bs us) (many (sees m.OpenBracket) (read.a_bound ns n inner) ts)
+  pub bounds_sound : (ts : List Token) → Yields (λ bs us. Bounds ns n ts bs us) (many (sees m.OpenBracket) (read.a_bound ns n inner) ts)
   bounds_sound = many_yields (λ ts bs us. Bounds ns n ts bs us) (sees m.OpenBracket) (read.a_bound ns n inner) (λ us h. Bounds.no_bound) (λ ts h. a_bound_sound ts)
 
   declr_from : (ts : List Token) (x : Named) (us : List Token) (bs : List Bound) (vs : List Token) → IsWord ts x us → Bounds ns n us bs vs → Declr' ns n ts (tree.declr x bs) vs
@@ -205,17 +205,17 @@ module _ (ns : Names) (n : ℕ) (inner : Inner) (sound : IsSound ns n inner) whe
   declr_sound ts = then_yields (any_name_yields ts) (λ x us i. then_yields (bounds_sound us) (λ bs vs more. Yields.got (declr_from ts x us bs vs i more)))
 
   -- more of them, behind the first
-  abbrev MoreDeclrs : List Token → List Declr → List Token → Type 0
+  abbrev pub MoreDeclrs : List Token → List Declr → List Token → Type 0
   MoreDeclrs ts ds us = (ss : List Token) (d : Declr) → Declr' ns n ss d ts → Declrs ns n ss (d ∷ ds) us
 
   next_from : (ts : List Token) (p : Pos) (us : List Token) (x : Declr) (vs : List Token) → Marked m.Comma ts p us → Declr' ns n us x vs → (ds : List Declr) (ws : List Token) → MoreDeclrs vs ds ws → MoreDeclrs ts (x ∷ ds) ws
   next_from _ _ us x vs Marked.marked i ds ws more ss d first = Declrs.next_declr first (more us x i)
 
-  next_declr_sound : (ts : List Token) → Yields (λ d us. (ds : List Declr) (vs : List Token) → MoreDeclrs us ds vs → MoreDeclrs ts (d ∷ ds) vs) (read.next_declr ns n inner ts)
+  pub next_declr_sound : (ts : List Token) → Yields (λ d us. (ds : List Declr) (vs : List Token) → MoreDeclrs us ds vs → MoreDeclrs ts (d ∷ ds) vs) (read.next_declr ns n inner ts)
   unfolding read.next_declr
   next_declr_sound ts = then_yields (expect_yields m.Comma ts) (λ p us c. map_yields (λ x vs i. next_from ts p us x vs c i) (declr_sound us))
 
-  more_declrs_sound : (ts : List Token) → Yields (λ ds us. MoreDeclrs ts ds us) (many (sees m.Comma) (read.next_declr ns n inner) ts)
+  pub more_declrs_sound : (ts : List Token) → Yields (λ ds us. MoreDeclrs ts ds us) (many (sees m.Comma) (read.next_declr ns n inner) ts)
   more_declrs_sound = many_yields MoreDeclrs (sees m.Comma) (read.next_declr ns n inner) (λ us h ss d first. Declrs.last_declr first) (λ ts h. next_declr_sound ts)
 
   pub declrs_sound : (ts : List Token) → Yields (λ ds us. SomeDeclrs ns n ts ds us) (read.declrs ns n inner ts)
@@ -298,7 +298,7 @@ module _ (ns : Names) (n : ℕ) (inner : Inner) (sound : IsSound ns n inner) whe
       → (fs : List Field) (xs : List Token) → Fields ns n ws fs xs → Fields ns n ts (tree.field t ds ∷ fs) xs
   field_from _ _ _ _ _ _ _ i (SomeDeclrs.some_declrs j) Marked.marked fs xs more = Fields.field i j more
 
-  field_sound : (ts : List Token) → Yields (λ f us. (fs : List Field) (vs : List Token) → Fields ns n us fs vs → Fields ns n ts (f ∷ fs) vs) (read.field ns n inner ts)
+  pub field_sound : (ts : List Token) → Yields (λ f us. (fs : List Field) (vs : List Token) → Fields ns n us fs vs → Fields ns n ts (f ∷ fs) vs) (read.field ns n inner ts)
   unfolding read.field
   field_sound ts =
       then_yields (specifiers_sound ts) (λ t us i.
@@ -381,7 +381,7 @@ module _ (ns : Names) (n : ℕ) (inner : Inner) (sound : IsSound ns n inner) whe
       → (xs : List Link) (ws : List Token) → Links ns n l vs xs ws → Links ns n l ts (tree.link op (tree.pos_of ts) a ∷ xs) ws
   link_from l _ _ _ a vs (IsOperator.is_operator h level) i xs ws more = Links.link h level i more
 
-  a_link_sound : (l : ℕ) (operand : Parser Expr) → ((ts : List Token) → Yields (λ a us. Ranked ns n l ts a us) (operand ts)) → (ts : List Token) → read.sees_operator (suc l) ts ≡ true
+  pub a_link_sound : (l : ℕ) (operand : Parser Expr) → ((ts : List Token) → Yields (λ a us. Ranked ns n l ts a us) (operand ts)) → (ts : List Token) → read.sees_operator (suc l) ts ≡ true
       → Yields (λ x us. (xs : List Link) (vs : List Token) → Links ns n l us xs vs → Links ns n l ts (x ∷ xs) vs) (read.a_link ns n inner operand ts)
   unfolding read.a_link
   a_link_sound l operand one ts h = then_yields (operator_sound l ts h) (λ op us o. then_yields (one us) (λ a vs i. Yields.got (link_from l ts op us a vs o i)))

@@ -21,4 +21,5 @@ pub mod DeepExpr
 pub mod DeepStmt
 pub mod DeepUnit
 pub mod ClosingLemmas
+pub mod ClosingExpr
 pub mod Samples
