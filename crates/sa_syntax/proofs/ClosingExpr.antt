@@ -1,6 +1,6 @@
 -- What is open in an expression, a place or a type that goes too deep can be closed.
 use Rattle.std.proofs.Common.{◌≡◌, ℕ, zero, suc, ◌+◌, ◌≤◌, List, [], ◌∷◌, ◌++◌, Bool, true, false, cond, refl, sym, ap, ◌∙◌, subst, length, append_assoc, replicate, ◌<◌, arith, Option, Some, None}
-use Rattle.std.specs.Prelude.{◌||◌}
+use Rattle.std.specs.Prelude.{◌||◌, ◌&&◌}
 use Rattle.std.specs.List.{list_any}
 use Rattle.std.specs.Str.{bytes_eq}
 use Rattle.std.proofs.lemmas.List.{length-replicate}
@@ -24,26 +24,28 @@ use Rattle.sa_syntax.specs.declared.decl.Field.{Field}
 use Rattle.sa_syntax.specs.declared.expr.Expr.{Expr}
 use Rattle.sa_syntax.specs.declared.expr.Expr.TheVariants as e
 use Rattle.sa_syntax.specs.declared.expr.Link.{Link}
+use Rattle.sa_syntax.specs.declared.expr.Operator.{Operator}
 use Rattle.sa_syntax.specs.declared.expr.Place.{Place}
 use Rattle.sa_syntax.specs.declared.expr.PlaceBase.TheVariants as at
 use Rattle.sa_syntax.specs.declared.expr.Prefix.{Prefix}
 use Rattle.sa_syntax.specs.declared.expr.Step.{Step}
 use Rattle.sa_syntax.specs.declared.expr.Step.TheVariants as step
 use Rattle.sa_syntax.specs.Trees as tree
-use Rattle.sa_syntax.specs.Words.{Names, mark, key, word, literal, named, is_type_name, is_star, is_close, is_through, prefix_of, operator_of, level_of, loosest}
+use Rattle.sa_syntax.specs.Words.{Names, mark, key, word, literal, named, is_type_name, is_star, is_close, is_name_and_close, is_through, prefix_of, operator_of, level_of, loosest}
 use Rattle.sa_syntax.specs.Expressions.{Whole, Ranked, Links, Unary, Place', Steps, Specifiers', Qualifiers, ScalarWords, Base', Struct', Fields, Declrs, Declr', Bounds}
-use Rattle.sa_syntax.specs.Reading.{Parser, Read, Got, Stuck, Deep, and_then, sees, after, expect, any_name, variable, name_at, key_at, mark_at, many, pure, ◌>>=◌}
+use Rattle.sa_syntax.specs.Reading.{Parser, Read, Got, Stuck, Deep, and_then, same_mark, sees, opens, after, expect, any_name, variable, name_at, key_at, mark_at, many, pure, ◌>>=◌}
 use Rattle.sa_syntax.specs.ReadExpr as read
 use Rattle.sa_syntax.specs.ReadExpr.{Inner, inside}
-use Rattle.sa_syntax.proofs.ReadingLemmas.{Yields, Marked, Opened, IsWord, IsVariable, Keyed, name_at_is, key_at_is}
+use Rattle.sa_syntax.proofs.ReadingLemmas.{Yields, if_yields, Marked, Opened, IsWord, IsVariable, Keyed, name_at_is, key_at_is}
 use Rattle.sa_syntax.proofs.ExprSound as sound
 use Rattle.sa_syntax.proofs.ExprSound.{inside_sound}
 use Rattle.sa_syntax.proofs.ExprRoom as room
 use Rattle.sa_syntax.proofs.ExprRoom.{inside_room}
-use Rattle.sa_syntax.proofs.DeepLemmas.{loosen, sees_ahead}
+use Rattle.sa_syntax.proofs.RoomLemmas.{Less}
+use Rattle.sa_syntax.proofs.DeepLemmas.{loosen, sees_ahead, fine_if, fine_refuse}
 use Rattle.sa_syntax.proofs.DeepExpr as fine
 use Rattle.sa_syntax.proofs.DeepExpr.{inside_fine}
-use Rattle.sa_syntax.proofs.ClosingLemmas.{Closed, Calm, Good, Some', Front, calm_then, closed_calm, closed_map, closed_if, closed_then, closed_next, closed_last, closed_opens, closed_opens_any, closed_many, calm_expect, calm_any_name, calm_variable, calm_taken, calm_if, calm_many, good_leaf, good_expect, good_any_name, good_variable, good_opens, opens_closed, stepped}
+use Rattle.sa_syntax.proofs.ClosingLemmas.{Closed, Calm, Good, Some', Front, calm_then, closed_calm, closed_map, closed_if, closed_then, closed_next, closed_last, closed_opens, closed_opens_any, closed_many, calm_expect, calm_any_name, calm_variable, calm_taken, calm_if, calm_many, good_leaf, good_expect, good_any_name, good_variable, good_opens, opens_closed, stepped, guarded}
 
 -- ---- tokens that close
 abbrev pub spot : Pos
@@ -334,3 +336,163 @@ module _ (ns : Names) (n : ℕ) (deeper : (i : ℕ) → n ≡ suc i → Deeper n
       closed_last n us [] (λ more vs fs rest i ss go. (f ∷ fs, sound.SomeFields.some_fields (go fs rest i)))
       (closed_many (Fields ns) (λ more us. Fields.no_field) (read.no_brace ns n (inside ns n)) (fine.no_brace_ahead ns n (inside ns n) (inside_fine ns n)) (λ n. read.field ns n (inside ns n))
           (λ n. fine.field_fine ns n (inside ns n) (inside_fine ns n)) (good_field ns).less (λ n ts h. (good_field ns).sound n ts) n (λ ts h. field_closed ts) us) (λ fs vs. Calm.got))
+
+-- ---- expressions
+-- the test of a place through a reference looks no further than the token, which is no name and no star
+through-word : (w : Word) (p : Pos) (r s : List Token) → plain w ≡ false → let t : Token = record { word = w; pos = p } in is_through (t ∷ r) ≡ is_through (t ∷ s)
+unfolding is_through
+through-word (Mark m.Star) p r s h = cc
+through-word w p r s h = refl
+
+name-word : (w : Word) (p : Pos) (r s : List Token) → plain w ≡ false → let t : Token = record { word = w; pos = p } in is_name_and_close (t ∷ r) ≡ is_name_and_close (t ∷ s)
+name-word (Name w) p r s h = cc
+name-word (Number v u l d) p [] [] h = refl
+name-word (Number v u l d) p [] (y ∷ s) h = refl
+name-word (Number v u l d) p (x ∷ r) [] h = refl
+name-word (Number v u l d) p (x ∷ r) (y ∷ s) h = refl
+name-word (Key j) p [] [] h = refl
+name-word (Key j) p [] (y ∷ s) h = refl
+name-word (Key j) p (x ∷ r) [] h = refl
+name-word (Key j) p (x ∷ r) (y ∷ s) h = refl
+name-word (Mark j) p [] [] h = refl
+name-word (Mark j) p [] (y ∷ s) h = refl
+name-word (Mark j) p (x ∷ r) [] h = refl
+name-word (Mark j) p (x ∷ r) (y ∷ s) h = refl
+
+through-same : (c : List Token) (t : Token) (r s : List Token) → Opener t → is_through (c ++ t ∷ r) ≡ is_through (c ++ t ∷ s)
+unfolding is_through
+through-same [] t r s h = through-word t.word t.pos r s h
+through-same (x ∷ []) t r s h = ap (λ z. is_star x.word && z) (name-word t.word t.pos r s h)
+through-same (x ∷ y ∷ []) t r s h = refl
+through-same (x ∷ y ∷ z ∷ c) t r s h = refl
+
+prefix-plain : (mk : Punct) (op : Prefix) → prefix_of mk ≡ Some op → plain (Mark mk) ≡ false
+prefix-plain m.Star op h = cc
+prefix-plain mk op h = refl
+
+cast_unary : (ns : Names) (more : ℕ) (p : Pos) (us : List Token) (t : Specifiers) (vs : List Token) (q : Pos) (ws : List Token) (a : Expr) (rest : List Token) → Specifiers' ns more us t vs → Marked m.CloseParen vs q ws → Unary ns more ws a rest
+    → Unary ns (suc more) (mark m.OpenParen p ∷ us) (e.Cast p t a) rest
+cast_unary ns more p us t _ q ws a rest i Marked.marked u = Unary.cast i u
+
+-- in brackets
+in_brackets : {A : Type 0} (ns : Names) (i : ℕ) (p : Pos) (us : List Token) {x : Read Expr} {f : Expr → Parser A} → is_through us ≡ false → Closed Opener (Some' (Whole ns)) i us x → ((a : Expr) (vs : List Token) → Calm (f a vs))
+    → Closed Opener (λ more vs rest. Some' (Unary ns) (suc more) (mark m.OpenParen p ∷ vs) rest) i us (and_then x f)
+in_brackets ns i p us h (Closed.got {a = a} {us = vs}) calm = closed_calm (calm a vs)
+in_brackets ns i p us h Closed.stuck calm = Closed.stuck
+in_brackets ns i p us h (Closed.deep {t} {r} c tail more same l o w) calm = Closed.deep c (tail ++ close m.CloseParen ∷ []) more same l o (λ rest.
+    let v = w (close m.CloseParen ∷ rest) in
+    let closed : is_through (c ++ t ∷ (tail ++ close m.CloseParen ∷ rest)) ≡ false = sym (through-same c t r (tail ++ close m.CloseParen ∷ rest) o) ∙ ap is_through (sym same) ∙ h in
+    (e.Bracket p (v.0), subst (λ z. Unary ns (suc more) (mark m.OpenParen p ∷ (c ++ t ∷ z)) (e.Bracket p (v.0)) rest) (sym (append_assoc tail (close m.CloseParen ∷ []) rest)) (Unary.bracket (v.1) closed)))
+
+link_front : (ns : Names) (more l : ℕ) (ss : List Token) (op : Operator) (us : List Token) (a : Expr) (vs : List Token) → sound.IsOperator l ss op us → Ranked ns more l us a vs
+    → Front (λ more ss xs us. Links ns more l ss xs us) more ss (tree.link op (tree.pos_of ss) a) vs
+link_front ns more l _ _ us a vs (sound.IsOperator.is_operator h level) i xs ws go = Links.link h level i go
+
+chained_ranked : (ns : Names) (more l : ℕ) (ss : List Token) (a : Expr) (us : List Token) (xs : List Link) (vs : List Token) → Ranked ns more l ss a us → Links ns more l us xs vs → Ranked ns more (suc l) ss (read.chained a xs) vs
+chained_ranked ns more l ss a us _ _ i Links.no_link = Ranked.alone i
+chained_ranked ns more l ss a _ _ vs i (Links.link h level j go) = Ranked.chain i (Links.link h level j go)
+
+choice_whole : (ns : Names) (more : ℕ) (c : Expr) (p : Pos) (ss us : List Token) (a : Expr) (vs : List Token) (q : Pos) (ws : List Token) (f : Expr) (rest : List Token) → Ranked ns (suc more) loosest ss c (mark m.Question p ∷ us) → Whole ns more us a vs → Marked m.Colon vs q ws
+    → Whole ns more ws f rest → Whole ns (suc more) ss (e.Choice c p a f) rest
+choice_whole ns more c p ss us a _ q ws f rest r i Marked.marked j = Whole.choice r i j
+
+good_operator : (l : ℕ) → Good (guarded (read.sees_operator (suc l)) (λ _. read.operator)) (λ _ ts op us. sound.IsOperator l ts op us)
+good_operator l = record { fine = λ n. fine_if (read.sees_operator (suc l)) (fine.operator_ahead (suc l)) (loosen fine.operator_fine) (fine_refuse 0); less = λ n more h ts. Less.same; sound = λ n ts. if_yields (read.sees_operator (suc l) ts) (sound.operator_sound l ts) (λ h. Yields.stuck) }
+
+calm_operator : (ts : List Token) → Calm (read.operator ts)
+unfolding read.operator
+calm_operator ts = calm_taken (read.operator_in (mark_at ts)) ts
+
+nought_bracket : (ns : Names) (more : ℕ) (p : Pos) (rest : List Token) → Unary ns (suc more) (mark m.OpenParen p ∷ nought ∷ close m.CloseParen ∷ rest) (e.Bracket p (e.Number 0 false 0 false spot)) rest
+unfolding is_through
+nought_bracket ns more p rest = Unary.bracket (zero-whole ns more (close m.CloseParen ∷ rest)) refl
+
+module _ (ns : Names) (n : ℕ) (deeper : (i : ℕ) → n ≡ suc i → Deeper ns i) where
+  a_place_closed : (ts : List Token) → Closed Opener (Some' (Unary ns)) n ts (read.a_place ns n (inside ns n) ts)
+  unfolding read.a_place
+  a_place_closed ts = closed_last n ts [] (λ more ss x rest i. (e.Place x, Unary.place i)) (place_closed ns n deeper ts) (λ x us. Calm.got)
+
+  cast_closed : (ts : List Token) → Closed Opener (Some' (Unary ns)) n ts (read.cast ns n (inside ns n) ts)
+  unfolding read.cast inside
+  cast_closed ts = closed_opens (λ n p. (inside ns n).specifiers >>= (λ t. expect m.CloseParen >>= (λ q. (inside ns n).unary >>= (λ a. pure (e.Cast p t a))))) n m.OpenParen ts (int ∷ close m.CloseParen ∷ nought ∷ []) (λ p. refl)
+      (λ more p rest. (e.Cast p int_type (e.Number 0 false 0 false spot), Unary.cast (int-type ns more (close m.CloseParen ∷ nought ∷ rest) ScalarWords.no_word) Unary.number))
+      (λ i h p us. closed_then (good_type ns) i us (close m.CloseParen ∷ nought ∷ []) (λ more ss t rest s. (e.Cast p t (e.Number 0 false 0 false spot), Unary.cast s Unary.number)) ((deeper i h).specifiers us) (λ t vs.
+          closed_next (good_expect m.CloseParen) i vs (calm_expect m.CloseParen vs) (λ q ws.
+          closed_last i ws [] (λ more xs a rest u vs c us s. (e.Cast p t a, cast_unary ns more p us t vs q xs a rest s c u)) ((deeper i h).unary ws) (λ a xs. Calm.got))))
+
+  bracket_marked : (ts : List Token) (p : Pos) (us : List Token) → Marked m.OpenParen ts p us → is_through (after ts) ≡ false → Closed Opener (Some' (Unary ns)) n ts (read.bracket ns n (inside ns n) ts)
+  unfolding read.bracket inside opens sees same_mark
+  bracket_marked _ p us Marked.marked t = closed_opens_any (λ n p. (inside ns n).whole >>= (λ a. expect m.CloseParen >>= (λ q. pure (e.Bracket p a)))) n m.OpenParen p us (nought ∷ close m.CloseParen ∷ []) refl
+      (λ more rest. (e.Bracket p (e.Number 0 false 0 false spot), nought_bracket ns more p rest))
+      (λ i h. in_brackets ns i p us t ((deeper i h).whole us) (λ a vs. calm_end m.CloseParen (λ q. e.Bracket p a) vs))
+
+  prefixed_closed : (mk : Punct) (op : Prefix) (p : Pos) (us : List Token) → prefix_of mk ≡ Some op → Closed Opener (Some' (Unary ns)) n (mark mk p ∷ us) (read.prefixed ns n (inside ns n) op (mark mk p ∷ us))
+  unfolding read.prefixed inside
+  prefixed_closed mk op p us h = closed_opens_any (λ n p. (inside ns n).unary >>= (λ a. pure (e.Prefix op p a))) n mk p us (nought ∷ []) (prefix-plain mk op h)
+      (λ more rest. (e.Prefix op p (e.Number 0 false 0 false spot), Unary.prefix h Unary.number))
+      (λ i g. closed_last i us [] (λ more vs a rest u. (e.Prefix op p a, Unary.prefix h u)) ((deeper i g).unary us) (λ a vs. Calm.got))
+
+  prefix_by_closed : (mk : Punct) (o : Option Prefix) (p : Pos) (us : List Token) → prefix_of mk ≡ o → Closed Opener (Some' (Unary ns)) n (mark mk p ∷ us) (read.prefix_by ns n (inside ns n) o (mark mk p ∷ us))
+  prefix_by_closed mk None p us h = Closed.stuck
+  prefix_by_closed mk (Some op) p us h = prefixed_closed mk op p us h
+
+  bracketed_closed : (p : Pos) (us : List Token) → Closed Opener (Some' (Unary ns)) n (mark m.OpenParen p ∷ us) (read.bracketed ns n (inside ns n) (mark m.OpenParen p ∷ us))
+  unfolding read.bracketed
+  bracketed_closed p us = closed_if (is_through us) (λ h. a_place_closed (mark m.OpenParen p ∷ us))
+      (λ h. closed_if (read.begins_type ns us) (λ g. cast_closed (mark m.OpenParen p ∷ us)) (λ g. bracket_marked (mark m.OpenParen p ∷ us) p us Marked.marked h))
+
+  mark_closed : (mk : Punct) (p : Pos) (us : List Token) → Closed Opener (Some' (Unary ns)) n (mark mk p ∷ us) (read.unary_mark ns n (inside ns n) mk (mark mk p ∷ us))
+  mark_closed m.OpenParen p us = bracketed_closed p us
+  mark_closed m.Star p us = a_place_closed (mark m.Star p ∷ us)
+  mark_closed mk p us = prefix_by_closed mk (prefix_of mk) p us refl
+
+  word_closed : (w : Word) (p : Pos) (us : List Token) → let t : Token = record { word = w; pos = p } in Closed Opener (Some' (Unary ns)) n (t ∷ us) (read.unary_by ns n (inside ns n) t us)
+  word_closed (Name w) p us = a_place_closed (word w p ∷ us)
+  word_closed (Number v u l d) p us = Closed.got
+  word_closed (Key j) p us = Closed.stuck
+  word_closed (Mark mk) p us = mark_closed mk p us
+
+  pub unary_closed : (ts : List Token) → Closed Opener (Some' (Unary ns)) n ts (read.unary ns n (inside ns n) ts)
+  unfolding read.unary
+  unary_closed [] = Closed.stuck
+  unary_closed (t ∷ ts) = word_closed t.word t.pos ts
+
+  a_link_closed : (l : ℕ) → ((ts : List Token) → Closed Opener (Some' (λ more ts a us. Ranked ns more l ts a us)) n ts (read.ranked ns n (inside ns n) l ts)) → (ts : List Token) → read.sees_operator (suc l) ts ≡ true
+      → Closed Opener (Some' (Front (λ more ss xs us. Links ns more l ss xs us))) n ts (read.a_link ns n (inside ns n) (read.ranked ns n (inside ns n) l) ts)
+  unfolding read.a_link
+  a_link_closed l one ts h =
+      let same : guarded (read.sees_operator (suc l)) (λ _. read.operator) n ts ≡ read.operator ts = ap (λ b. cond b (read.operator ts) (Stuck ts)) h in
+      subst (λ (x : Read Operator). Closed Opener (Some' (Front (λ more ss xs us. Links ns more l ss xs us))) n ts (and_then x (λ op. read.ranked ns n (inside ns n) l >>= (λ a. pure (tree.link op (tree.pos_of ts) a))))) same
+      (closed_next (good_operator l) n ts (calm_if (read.sees_operator (suc l) ts) (calm_operator ts) Calm.stuck) (λ op us.
+          closed_last n us [] (λ more vs a rest i ss o. (tree.link op (tree.pos_of ss) a, link_front ns more l ss op vs a rest o i)) (one us) (λ a vs. Calm.got)))
+
+  links_closed : (l : ℕ) → ((ts : List Token) → Closed Opener (Some' (λ more ts a us. Ranked ns more l ts a us)) n ts (read.ranked ns n (inside ns n) l ts)) → (ts : List Token)
+      → Closed Opener (Some' (λ more ss xs us. Links ns more l ss xs us)) n ts (many (read.sees_operator (suc l)) (read.a_link ns n (inside ns n) (read.ranked ns n (inside ns n) l)) ts)
+  links_closed l one ts = closed_many (λ more ss xs us. Links ns more l ss xs us) (λ more us. Links.no_link) (read.sees_operator (suc l)) (fine.operator_ahead (suc l)) (λ n. read.a_link ns n (inside ns n) (read.ranked ns n (inside ns n) l))
+      (λ n. fine.a_link_fine ns n (inside ns n) (inside_fine ns n) (read.ranked ns n (inside ns n) l) ((good_ranked ns l).fine n))
+      (λ n more h. room.a_link_room ns n more (inside ns n) (inside ns more) h (inside_room ns n more h) (read.ranked ns n (inside ns n) l) (read.ranked ns more (inside ns more) l) ((good_ranked ns l).less n more h))
+      (λ n ts h. sound.a_link_sound ns n (inside ns n) (inside_sound ns n) l (read.ranked ns n (inside ns n) l) ((good_ranked ns l).sound n) ts h) n (a_link_closed l one) ts
+
+  pub ranked_closed : (l : ℕ) (ts : List Token) → Closed Opener (Some' (λ more ts a us. Ranked ns more l ts a us)) n ts (read.ranked ns n (inside ns n) l ts)
+  unfolding read.ranked read.chain
+  ranked_closed zero ts = closed_map (λ more us vs x. (x.0, Ranked.unary (x.1))) (unary_closed ts)
+  ranked_closed (suc l) ts = closed_then (good_ranked ns l) n ts [] (λ more ss a rest i. (a, Ranked.alone i)) (ranked_closed l ts) (λ a us.
+      closed_last n us [] (λ more vs xs rest j ss i. (read.chained a xs, chained_ranked ns more l ss a vs xs rest i j)) (links_closed l (ranked_closed l) us) (λ xs vs. Calm.got))
+
+  choice_closed : (c : Expr) (ts : List Token) → Closed Opener (λ more us rest. (ss : List Token) → Ranked ns more loosest ss c us → Some' (Whole ns) more ss rest) n ts (read.choice ns n (inside ns n) c ts)
+  unfolding read.choice inside
+  choice_closed c ts = closed_opens (λ n p. (inside ns n).whole >>= (λ a. expect m.Colon >>= (λ q. (inside ns n).whole >>= (λ f. pure (e.Choice c p a f))))) n m.Question ts (nought ∷ close m.Colon ∷ nought ∷ []) (λ p. refl)
+      (λ more p rest ss r. (e.Choice c p (e.Number 0 false 0 false spot) (e.Number 0 false 0 false spot), Whole.choice r (zero-whole ns more (close m.Colon ∷ nought ∷ rest)) (zero-whole ns more rest)))
+      (λ i h p us. closed_then (good_whole ns) i us (close m.Colon ∷ nought ∷ []) (λ more xs a rest w ss r. (e.Choice c p a (e.Number 0 false 0 false spot), Whole.choice r w (zero-whole ns more rest))) ((deeper i h).whole us) (λ a vs.
+          closed_next (good_expect m.Colon) i vs (calm_expect m.Colon vs) (λ q ws.
+          closed_last i ws [] (λ more zs f rest j vs d us w ss r. (e.Choice c p a f, choice_whole ns more c p ss us a vs q zs f rest r w d j)) ((deeper i h).whole ws) (λ f zs. Calm.got))))
+
+  pub whole_closed : (ts : List Token) → Closed Opener (Some' (Whole ns)) n ts (read.whole ns n (inside ns n) ts)
+  unfolding read.whole
+  whole_closed ts = closed_then (good_ranked ns loosest) n ts [] (λ more ss a rest r. (a, Whole.binary r)) (ranked_closed loosest ts) (λ c us. closed_if (sees m.Question us) (λ h. choice_closed c us) (λ h. Closed.got))
+
+pub all_closed : (ns : Names) (i : ℕ) → Deeper ns i
+all_closed ns zero = record { whole = whole_closed ns zero (λ i h. cc); unary = unary_closed ns zero (λ i h. cc); specifiers = specifiers_closed ns zero (λ i h. cc); fields = fields_closed ns zero (λ i h. cc) }
+all_closed ns (suc n) =
+    let below : (i : ℕ) → suc n ≡ suc i → Deeper ns i = λ i h. let same : n ≡ i = omega (arith, h) in subst (Deeper ns) same (all_closed ns n) in
+    record { whole = whole_closed ns (suc n) below; unary = unary_closed ns (suc n) below; specifiers = specifiers_closed ns (suc n) below; fields = fields_closed ns (suc n) below }

@@ -174,7 +174,7 @@ Front {A} Star more ts x us = (xs : List A) (vs : List Token) → Star more us x
 abbrev pub Some' : {A : Type 0} → (ℕ → List Token → A → List Token → Type 0) → ℕ → List Token → List Token → Type 0
 Some' {A} P more ts rest = (a : A) × P more ts a rest
 
-abbrev guarded : {A : Type 0} → (List Token → Bool) → (ℕ → Parser A) → ℕ → Parser A
+abbrev pub guarded : {A : Type 0} → (List Token → Bool) → (ℕ → Parser A) → ℕ → Parser A
 guarded goes item n = λ ts. cond (goes ts) (item n ts) (Stuck ts)
 
 closed_while : {A : Type 0} {O : Token → Type 0} (Star : ℕ → List Token → List A → List Token → Type 0) → ((more : ℕ) (us : List Token) → Star more us [] us) → (goes : List Token → Bool) (item : ℕ → Parser A) → Good (guarded goes item) (Front Star) → (n : ℕ)
