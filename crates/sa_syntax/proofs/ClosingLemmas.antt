@@ -8,7 +8,7 @@ use Rattle.sa_tokens.specs.declared.token.Word.TheVariants.{Name, Number, Key, M
 use Rattle.sa_tokens.specs.declared.token.Token.{Token}
 use Rattle.sa_syntax.specs.Words.{Names, mark}
 use Rattle.sa_syntax.specs.Reading.{Read, Got, Stuck, Deep, Parser, and_then, is_mark, sees, after, expect, any_name, variable, name_at, unless_type, taken, opens_any, opens, turns, while_from, many, ◌>>=◌}
-use Rattle.sa_syntax.specs.ReadStmt.{takes}
+use Rattle.sa_syntax.specs.ReadStmt.{takes, list_from, list}
 use Rattle.sa_syntax.proofs.ReadingLemmas.{Yields, yielded, if_yields, Marked, sees_is, expect_yields, Opened, opens_yields, IsWord, any_name_yields, IsVariable, variable_yields}
 use Rattle.sa_syntax.proofs.RoomLemmas.{Less, less_if, less_opens}
 use Rattle.sa_syntax.proofs.DeepLemmas.{Shrinks, Local, Fine, Ahead, loosen, fine_if, fine_refuse, fine_expect, fine_any_name, fine_variable, fine_opens}
@@ -144,27 +144,37 @@ shifted n t us Closed.got = Closed.got
 shifted n t us Closed.stuck = Closed.stuck
 shifted n t us (Closed.deep b tail more e h o w) = Closed.deep (t ∷ b) tail (suc more) (ap (λ z. t ∷ z) e) (omega (arith, h)) o w
 
+pub opens_any_from : {B : Type 0} {O : Token → Type 0} {R : ℕ → List Token → List Token → Type 0} (k : ℕ) (f : ℕ → Pos → Parser B) (n : ℕ) (mk : Punct) (p : Pos) (us d : List Token) → O (mark mk p)
+    → ((rest : List Token) → R k (mark mk p ∷ (d ++ rest)) rest)
+    → ((i : ℕ) → n ≡ suc i → Closed O (λ more vs rest. R (suc more) (mark mk p ∷ vs) rest) i us (f (suc i) p us)) → Closed O R n (mark mk p ∷ us) (and_then (opens_any n (mark mk p ∷ us)) (f n))
+unfolding opens_any
+opens_any_from k f zero mk p us d o go each = Closed.deep [] d k refl (omega arith) o go
+opens_any_from k f (suc n) mk p us d o go each = shifted n (mark mk p) us (each n refl)
+
 pub closed_opens_any : {B : Type 0} {O : Token → Type 0} {R : ℕ → List Token → List Token → Type 0} (f : ℕ → Pos → Parser B) (n : ℕ) (mk : Punct) (p : Pos) (us d : List Token) → O (mark mk p)
     → ((more : ℕ) (rest : List Token) → R (suc more) (mark mk p ∷ (d ++ rest)) rest)
     → ((i : ℕ) → n ≡ suc i → Closed O (λ more vs rest. R (suc more) (mark mk p ∷ vs) rest) i us (f (suc i) p us)) → Closed O R n (mark mk p ∷ us) (and_then (opens_any n (mark mk p ∷ us)) (f n))
-unfolding opens_any
-closed_opens_any f zero mk p us d o go each = Closed.deep [] d 1 refl (omega arith) o (λ rest. go 0 rest)
-closed_opens_any f (suc n) mk p us d o go each = shifted n (mark mk p) us (each n refl)
+closed_opens_any f n mk p us d o go each = opens_any_from 1 f n mk p us d o (go 0) each
 
-marked_opens : {B : Type 0} {O : Token → Type 0} {R : ℕ → List Token → List Token → Type 0} (f : ℕ → Pos → Parser B) (n : ℕ) (mk : Punct) (ts : List Token) (p : Pos) (us d : List Token) → Marked mk ts p us → ((p : Pos) → O (mark mk p))
-    → ((more : ℕ) (p : Pos) (rest : List Token) → R (suc more) (mark mk p ∷ (d ++ rest)) rest)
+marked_opens : {B : Type 0} {O : Token → Type 0} {R : ℕ → List Token → List Token → Type 0} (k : ℕ) (f : ℕ → Pos → Parser B) (n : ℕ) (mk : Punct) (ts : List Token) (p : Pos) (us d : List Token) → Marked mk ts p us → ((p : Pos) → O (mark mk p))
+    → ((p : Pos) (rest : List Token) → R k (mark mk p ∷ (d ++ rest)) rest)
     → ((i : ℕ) → n ≡ suc i → (p : Pos) (us : List Token) → Closed O (λ more vs rest. R (suc more) (mark mk p ∷ vs) rest) i us (f (suc i) p us)) → Closed O R n ts (and_then (opens_any n ts) (f n))
-marked_opens f n mk _ p us d Marked.marked o go each = closed_opens_any f n mk p us d (o p) (λ more rest. go more p rest) (λ i h. each i h p us)
+marked_opens k f n mk _ p us d Marked.marked o go each = opens_any_from k f n mk p us d (o p) (go p) (λ i h. each i h p us)
+
+pub opens_from : {B : Type 0} {O : Token → Type 0} {R : ℕ → List Token → List Token → Type 0} (k : ℕ) (f : ℕ → Pos → Parser B) (n : ℕ) (mk : Punct) (ts d : List Token) → ((p : Pos) → O (mark mk p))
+    → ((p : Pos) (rest : List Token) → R k (mark mk p ∷ (d ++ rest)) rest)
+    → ((i : ℕ) → n ≡ suc i → (p : Pos) (us : List Token) → Closed O (λ more vs rest. R (suc more) (mark mk p ∷ vs) rest) i us (f (suc i) p us)) → Closed O R n ts (and_then (opens n mk ts) (f n))
+unfolding opens
+opens_from {O = O} {R = R} k f n mk ts d o go each = by_test (sees mk ts) refl
+  where
+    by_test : (x : Bool) → sees mk ts ≡ x → Closed O R n ts (and_then (cond x (opens_any n ts) (Stuck ts)) (f n))
+    by_test true h = let s = sees_is mk ts h in marked_opens k f n mk ts (s.0) (after ts) d (s.1) o go each
+    by_test false h = Closed.stuck
 
 pub closed_opens : {B : Type 0} {O : Token → Type 0} {R : ℕ → List Token → List Token → Type 0} (f : ℕ → Pos → Parser B) (n : ℕ) (mk : Punct) (ts d : List Token) → ((p : Pos) → O (mark mk p))
     → ((more : ℕ) (p : Pos) (rest : List Token) → R (suc more) (mark mk p ∷ (d ++ rest)) rest)
     → ((i : ℕ) → n ≡ suc i → (p : Pos) (us : List Token) → Closed O (λ more vs rest. R (suc more) (mark mk p ∷ vs) rest) i us (f (suc i) p us)) → Closed O R n ts (and_then (opens n mk ts) (f n))
-unfolding opens
-closed_opens {O = O} {R = R} f n mk ts d o go each = by_test (sees mk ts) refl
-  where
-    by_test : (x : Bool) → sees mk ts ≡ x → Closed O R n ts (and_then (cond x (opens_any n ts) (Stuck ts)) (f n))
-    by_test true h = let k = sees_is mk ts h in marked_opens f n mk ts (k.0) (after ts) d (k.1) o go each
-    by_test false h = Closed.stuck
+closed_opens f n mk ts d o go each = opens_from 1 f n mk ts d o (go 0) each
 
 -- ---- lists
 -- an item stands in front of a list
@@ -261,3 +271,49 @@ pub stepped : {A : Type 0} {O : Token → Type 0} {R : ℕ → List Token → Li
 stepped t Closed.got = Closed.got
 stepped t Closed.stuck = Closed.stuck
 stepped t (Closed.deep b tail more e h o w) = Closed.deep (t ∷ b) tail more (ap (λ z. t ∷ z) e) h o w
+
+-- any token
+abbrev pub Any : Token → Type 0
+Any t = Unit {0}
+
+pub closed_any : {A : Type 0} {O : Token → Type 0} {R : ℕ → List Token → List Token → Type 0} {n : ℕ} {ts : List Token} {x : Read A} → Closed O R n ts x → Closed Any R n ts x
+closed_any Closed.got = Closed.got
+closed_any Closed.stuck = Closed.stuck
+closed_any (Closed.deep b tail more e h o w) = Closed.deep b tail more e h tt w
+
+-- one deeper
+pub deeper_room : {A : Type 0} {O : Token → Type 0} {R : ℕ → List Token → List Token → Type 0} (i : ℕ) (ts : List Token) {x : Read A} → Closed O (λ more vs rest. R (suc more) vs rest) i ts x → Closed O R (suc i) ts x
+deeper_room i ts Closed.got = Closed.got
+deeper_room i ts Closed.stuck = Closed.stuck
+deeper_room i ts (Closed.deep b tail more e h o w) = Closed.deep b tail (suc more) e (omega (arith, h)) o w
+
+pub closed_reader : {A : Type 0} {O : Token → Type 0} {R : ℕ → List Token → List Token → Type 0} {n : ℕ} (p q : Parser A) (b : Bool) (ts : List Token) → (b ≡ true → Closed O R n ts (p ts)) → (b ≡ false → Closed O R n ts (q ts)) → Closed O R n ts (cond b p q ts)
+closed_reader p q true ts one other = one refl
+closed_reader p q false ts one other = other refl
+
+-- ---- with a mark after each
+pub calm_ends : {A : Type 0} (close : Punct) (a : A) (ts : List Token) → Calm (and_then (expect close ts) (λ _ us. Got a us))
+calm_ends close a ts = calm_then (calm_expect close ts) (λ p us. Calm.got)
+
+-- behind a comma
+comma_closed : {A : Type 0} {O : Token → Type 0} {R : ℕ → List Token → List Token → Type 0} {n : ℕ} (us : List Token) (p : Pos) (vs : List Token) {y : Read A} → Marked m.Comma us p vs → Closed O (λ more ws rest. (p : Pos) → R more (mark m.Comma p ∷ ws) rest) n vs y → Closed O R n us y
+comma_closed _ p vs Marked.marked c = stepped (mark m.Comma p) (closed_map (λ more ws rest go. go p) c)
+
+list_closed_from : {A : Type 0} {O : Token → Type 0} (One : ℕ → List Token → A → List Token → Type 0) (Rest : ℕ → List Token → List A → List Token → Type 0) (close : Punct) (one : ℕ → Parser A) → Good one One
+    → ((more : ℕ) (ts : List Token) (x : A) (p : Pos) (us : List Token) → One more ts x (mark close p ∷ us) → Rest more ts (x ∷ []) us)
+    → ((more : ℕ) (ts : List Token) (x : A) (p : Pos) (us : List Token) (xs : List A) (vs : List Token) → One more ts x (mark m.Comma p ∷ us) → Rest more us xs vs → Rest more ts (x ∷ xs) vs)
+    → (n : ℕ) → ((ts : List Token) → Closed O (Some' One) n ts (one n ts)) → (left : ℕ) (found : List A) (ts : List Token) → Closed O (Some' Rest) n ts (list_from close (one n) left found ts)
+unfolding list_from
+list_closed_from One Rest close one good last next n each zero found ts = Closed.stuck
+list_closed_from One Rest close one good last next n each (suc left) found ts =
+    closed_then good n ts (mark close (record { line = 1; col = 1 }) ∷ []) (λ more ss x rest i. (x ∷ [], last more ss x _ rest i)) (each ts) (λ x us.
+    closed_if (sees m.Comma us)
+    (λ h. let c = sees_is m.Comma us h in comma_closed us (c.0) (after us) (c.1)
+        (closed_map (λ more ws rest r p ss i. (x ∷ (r.0), next more ss x p ws (r.0) rest i (r.1))) (list_closed_from One Rest close one good last next n each left (found ++ x ∷ []) (after us))))
+    (λ h. closed_calm (calm_ends close (found ++ x ∷ []) us)))
+
+pub list_closed : {A : Type 0} {O : Token → Type 0} (One : ℕ → List Token → A → List Token → Type 0) (Rest : ℕ → List Token → List A → List Token → Type 0) (close : Punct) (one : ℕ → Parser A) → Good one One
+    → ((more : ℕ) (ts : List Token) (x : A) (p : Pos) (us : List Token) → One more ts x (mark close p ∷ us) → Rest more ts (x ∷ []) us)
+    → ((more : ℕ) (ts : List Token) (x : A) (p : Pos) (us : List Token) (xs : List A) (vs : List Token) → One more ts x (mark m.Comma p ∷ us) → Rest more us xs vs → Rest more ts (x ∷ xs) vs)
+    → (n : ℕ) → ((ts : List Token) → Closed O (Some' One) n ts (one n ts)) → (ts : List Token) → Closed O (Some' Rest) n ts (list close (one n) ts)
+list_closed One Rest close one good last next n each ts = list_closed_from One Rest close one good last next n each (turns ts) [] ts

@@ -50,16 +50,16 @@ use Rattle.sa_syntax.proofs.DeepExpr.{inside_fine, type_ahead, place_ahead}
 
 -- ---- what is read of expressions and types
 module _ (ns : Names) (n : ℕ) where
-  expr_fine : Fine 0 (read.expr ns n)
+  pub expr_fine : Fine 0 (read.expr ns n)
   expr_fine = fine.whole_fine ns n (inside ns n) (inside_fine ns n)
 
-  place_fine : Fine 1 (read.place ns n)
+  pub place_fine : Fine 1 (read.place ns n)
   place_fine = fine.place_fine ns n (inside ns n) (inside_fine ns n)
 
   pub specifiers_fine : Fine 0 (read.specifiers ns n)
   specifiers_fine = fine.specifiers_fine ns n (inside ns n) (inside_fine ns n)
 
-  declr_fine : Fine 1 (read.declr ns n)
+  pub declr_fine : Fine 1 (read.declr ns n)
   declr_fine = fine.declr_fine ns n (inside ns n) (inside_fine ns n)
 
   name_expr : (w : List ℕ) (p : Pos) (us : List Token) → Shrinks 0 us (read.expr ns n (word w p ∷ us))
@@ -109,18 +109,18 @@ local_inits one each (suc n) (suc more) found b t r s h =
         ((inits_end (found ++ i ∷ [])).shrinks us))
     (each.local b t r s) (each.shrinks (b ++ t ∷ s))
 
-inits_fine : (one : Parser Init) → Fine 0 one → Fine 0 (λ ts. read.inits_from one (turns ts) [] ts)
+pub inits_fine : (one : Parser Init) → Fine 0 one → Fine 0 (λ ts. read.inits_from one (turns ts) [] ts)
 inits_fine one each = record { shrinks = λ ts. shrink_inits one each (turns ts) [] ts; local = λ b t r s. local_inits one each (turns (b ++ t ∷ r)) (turns (b ++ t ∷ s)) [] b t r s (omega arith) }
 
-braces_fine : (n : ℕ) (one : Parser Init) → ((i : ℕ) → n ≡ suc i → Fine 0 one) → Fine 1 (read.braces n one)
+pub braces_fine : (n : ℕ) (one : Parser Init) → ((i : ℕ) → n ≡ suc i → Fine 0 one) → Fine 1 (read.braces n one)
 unfolding read.braces
 braces_fine n one each = fine_opens_then n m.OpenBrace (λ i h p. fine_then (inits_fine one (each i h)) (λ is. fine_pure (init.Braces p is)))
 
-init_by_fine : (ns : Names) (n : ℕ) (one : Parser Init) → ((i : ℕ) → n ≡ suc i → Fine 0 one) → Fine 0 (read.init_by ns n one)
+pub init_by_fine : (ns : Names) (n : ℕ) (one : Parser Init) → ((i : ℕ) → n ≡ suc i → Fine 0 one) → Fine 0 (read.init_by ns n one)
 unfolding read.init_by
 init_by_fine ns n one each = fine_if (sees m.OpenBrace) (sees_ahead m.OpenBrace) (loosen (braces_fine n one each)) (fine_then (expr_fine ns n) (λ a. fine_pure (init.Value a)))
 
-init_at_fine : (ns : Names) (n : ℕ) → Fine 0 (read.init_at ns n)
+pub init_at_fine : (ns : Names) (n : ℕ) → Fine 0 (read.init_at ns n)
 unfolding read.init_at
 init_at_fine ns zero = init_by_fine ns zero (λ ts. Deep ts) (λ i h. cc)
 init_at_fine ns (suc n) = init_by_fine ns (suc n) (read.init_at ns n) (λ i h. init_at_fine ns n)
@@ -138,7 +138,7 @@ module _ (ns : Names) (n : ℕ) where
       (fine.declr_gone ns n (inside ns n) (inside_fine ns n) t us)
 
   -- ---- calls
-  arg_value_fine : Fine 0 (read.arg_value ns n)
+  pub arg_value_fine : Fine 0 (read.arg_value ns n)
   unfolding read.arg_value
   arg_value_fine = fine_if (sees m.Ampersand) (sees_ahead m.Ampersand)
       (fine_then (fine_expect m.Ampersand) (λ p. fine_then (place_fine ns n) (λ x. fine_pure (value.Reference p x))))
@@ -168,7 +168,7 @@ module _ (ns : Names) (n : ℕ) where
           ((ends_fine m.CloseParen (found ++ tree.arg p v ∷ [])).shrinks us))
       (arg_value_fine.local b t r s) (arg_value_fine.shrinks (b ++ t ∷ s))
 
-  args_fine : (p : Pos) → Fine 0 (read.args ns p n)
+  pub args_fine : (p : Pos) → Fine 0 (read.args ns p n)
   unfolding read.args
   args_fine p = fine_if (sees m.CloseParen) (sees_ahead m.CloseParen) (fine_after (fine_pure []))
       (record { shrinks = λ ts. shrink_args (turns ts) p [] ts; local = λ b t r s. local_args (turns (b ++ t ∷ r)) (turns (b ++ t ∷ s)) p [] b t r s (omega arith) })
@@ -187,12 +187,12 @@ args_fine_at ns p n = args_fine ns n p
 
 -- ---- a call is seen by its name and a bracket
 module _ (ns : Names) (n : ℕ) where
-  call_fine : Fine 1 (read.call ns n)
+  pub call_fine : Fine 1 (read.call ns n)
   unfolding read.call
   call_fine = fine_first (fine_variable ns) (λ x. fine_opens_then n m.OpenParen (λ i h p. fine_then (fine_within (read.args ns p) (λ n. args_fine_at ns p n) n i h) (λ xs. fine_pure (tree.call x xs))))
 
   -- the name is taken
-  call_gone : (w : List ℕ) (p : Pos) (us : List Token) → Shrinks 0 us (read.call ns n (word w p ∷ us))
+  pub call_gone : (w : List ℕ) (p : Pos) (us : List Token) → Shrinks 0 us (read.call ns n (word w p ∷ us))
   unfolding read.call
   call_gone w p us = shrink_then {j = 0} {k = 0} 0 (omega arith) (λ x vs. loosen_read ((opened_fine x).shrinks vs)) us (variable_gone ns (word w p) us)
     where
@@ -216,16 +216,16 @@ module _ (ns : Names) (n : ℕ) where
   call_near p q one other (Key j) at r s = inl refl
   call_near p q one other (Mark mk) at r s = inl refl
 
-  call_or_fine : {A : Type 0} {k : ℕ} (p q : Parser A) → Fine k p → Fine k q → ((w : List ℕ) (at : Pos) (us : List Token) → Shrinks 0 us (p (word w at ∷ us))) → ((w : List ℕ) (at : Pos) (us : List Token) → Shrinks 0 us (q (word w at ∷ us)))
+  pub call_or_fine : {A : Type 0} {k : ℕ} (p q : Parser A) → Fine k p → Fine k q → ((w : List ℕ) (at : Pos) (us : List Token) → Shrinks 0 us (p (word w at ∷ us))) → ((w : List ℕ) (at : Pos) (us : List Token) → Shrinks 0 us (q (word w at ∷ us)))
       → Fine k (λ ts. cond (read.sees_call ns ts) (p ts) (q ts))
   call_or_fine p q one other gone away = fine_look (read.sees_call ns) one other call_far (λ t r s. call_near p q gone away t.word t.pos r s) (λ c t r s. inl (call_second c t r s))
 
   -- ---- assignments
-  before_fine : (t : Turn) → Fine 1 (read.before ns n t)
+  pub before_fine : (t : Turn) → Fine 1 (read.before ns n t)
   unfolding read.before
   before_fine t = fine_first fine_takes (λ p. fine_then (place_fine ns n) (λ x. fine_pure (simply.Before t p x)))
 
-  compounded_fine : (x : Place) (o : Option Compound) → Fine 0 (read.compounded ns n x o)
+  pub compounded_fine : (x : Place) (o : Option Compound) → Fine 0 (read.compounded ns n x o)
   compounded_fine x None = fine_refuse 0
   compounded_fine x (Some op) = fine_then fine_takes (λ p. fine_then (expr_fine ns n) (λ a. fine_pure (simply.Compound x op p a)))
 
@@ -233,14 +233,14 @@ module _ (ns : Names) (n : ℕ) where
   stuck_or true one = fine_refuse 0
   stuck_or false one = one
 
-  turned_fine : (star : Bool) (x : Place) (o : Option Turn) → Fine 0 (read.turned ns n star x o)
+  pub turned_fine : (star : Bool) (x : Place) (o : Option Turn) → Fine 0 (read.turned ns n star x o)
   turned_fine star x None = fine_ahead (λ ts. read.compound_in (mark_at ts)) (λ t r s. ap read.compound_in (mark_ahead t r s)) (read.compounded ns n x) (compounded_fine x)
   turned_fine star x (Some t) = stuck_or star (fine_then fine_takes (λ p. fine_pure (simply.After x t p)))
 
   turn_ahead : Ahead (λ ts. read.turn_in (mark_at ts))
   turn_ahead t r s = ap read.turn_in (mark_ahead t r s)
 
-  assigned_fine : (star : Bool) (x : Place) → Fine 0 (read.assigned ns n star x)
+  pub assigned_fine : (star : Bool) (x : Place) → Fine 0 (read.assigned ns n star x)
   unfolding read.assigned
   assigned_fine star x = fine_if (sees m.Equal) (sees_ahead m.Equal) (fine_then (fine_expect m.Equal) (λ p. fine_then (expr_fine ns n) (λ a. fine_pure (simply.Assign x p a))))
       (fine_ahead (λ ts. read.turn_in (mark_at ts)) turn_ahead (read.turned ns n star x) (turned_fine star x))
@@ -248,43 +248,43 @@ module _ (ns : Names) (n : ℕ) where
   star_ahead : Ahead begins_with_star
   star_ahead t r s = refl
 
-  simple_by_fine : (o : Option Turn) → Fine 1 (read.simple_by ns n o)
+  pub simple_by_fine : (o : Option Turn) → Fine 1 (read.simple_by ns n o)
   simple_by_fine (Some t) = before_fine t
   simple_by_fine None = fine_ahead begins_with_star star_ahead (λ star. read.place ns n >>= read.assigned ns n star) (λ star. fine_first (place_fine ns n) (assigned_fine star))
 
-  simple_fine : Fine 1 (read.simple ns n)
+  pub simple_fine : Fine 1 (read.simple ns n)
   unfolding read.simple
   simple_fine = fine_ahead (λ ts. read.turn_in (mark_at ts)) turn_ahead (read.simple_by ns n) simple_by_fine
 
   -- ---- locals
-  init_fine : (x : Declr) (p : Pos) → Fine 0 (read.init_at ns n >>= (λ i. pure (tree.local_declr x (begins.Init p i))))
+  pub init_fine : (x : Declr) (p : Pos) → Fine 0 (read.init_at ns n >>= (λ i. pure (tree.local_declr x (begins.Init p i))))
   init_fine x p = fine_then (init_at_fine ns n) (λ i. fine_pure (tree.local_declr x (begins.Init p i)))
 
-  init_gone : (w : List ℕ) (p : Pos) (us : List Token) → Shrinks 0 us (read.init_at ns n (word w p ∷ us))
+  pub init_gone : (w : List ℕ) (p : Pos) (us : List Token) → Shrinks 0 us (read.init_at ns n (word w p ∷ us))
   init_gone w p us = init_name ns n w p us
 
-  local_start_fine : (x : Declr) → Fine 0 (read.local_start ns n x)
+  pub local_start_fine : (x : Declr) → Fine 0 (read.local_start ns n x)
   unfolding read.local_start
   local_start_fine x = fine_then (fine_expect m.Equal) (λ p. call_or_fine (read.call ns n >>= (λ c. pure (tree.local_declr x (begins.Call p c)))) (read.init_at ns n >>= (λ i. pure (tree.local_declr x (begins.Init p i))))
       (fine_then call_fine (λ c. fine_pure (tree.local_declr x (begins.Call p c)))) (init_fine x p)
       (λ w at us. shrink_then {j = 0} {k = 0} 0 (omega arith) (λ c. (fine_pure (tree.local_declr x (begins.Call p c))).shrinks) us (call_gone w at us))
       (λ w at us. shrink_then {j = 0} {k = 0} 0 (omega arith) (λ i. (fine_pure (tree.local_declr x (begins.Init p i))).shrinks) us (init_gone w at us)))
 
-  local_declr_fine : Fine 1 (read.local_declr ns n)
+  pub local_declr_fine : Fine 1 (read.local_declr ns n)
   unfolding read.local_declr
   local_declr_fine = fine_first (declr_fine ns n) (λ x. fine_if (sees m.Equal) (sees_ahead m.Equal) (local_start_fine x) (fine_pure (tree.local_declr x begins.Nothing)))
 
-  local_fine : Fine 1 (read.local ns n)
+  pub local_fine : Fine 1 (read.local ns n)
   unfolding read.local
   local_fine = fine_next (specifiers_fine ns n) (λ t. fine_first (fine_list m.Semicolon local_declr_fine) (λ ds. fine_pure (tree.local t ds)))
 
 -- ---- directives and parts of statements
-double_bracket_fine : {A : Type 0} (n : ℕ) (p : Parser A) → ((i : ℕ) → n ≡ suc (suc i) → Fine 0 p) → Fine 1 (read.double_bracket n p)
+pub double_bracket_fine : {A : Type 0} (n : ℕ) (p : Parser A) → ((i : ℕ) → n ≡ suc (suc i) → Fine 0 p) → Fine 1 (read.double_bracket n p)
 unfolding read.double_bracket
 double_bracket_fine n p each = fine_opens_then n m.OpenParen (λ i h a. fine_opens_then (n - 1) m.OpenParen (λ j g b. let two : n ≡ suc (suc j) = omega (arith, h, g) in
     fine_then (each j two) (λ x. fine_then (fine_expect m.CloseParen) (λ c. fine_then (fine_expect m.CloseParen) (λ d. fine_pure x)))))
 
-bare_fine : (n : ℕ) (a : Directive) → Fine 1 (read.bare n a)
+pub bare_fine : (n : ℕ) (a : Directive) → Fine 1 (read.bare n a)
 unfolding read.bare
 bare_fine n a = fine_first fine_takes (λ p. double_bracket_fine n (pure a) (λ i h. fine_pure a))
 
@@ -293,40 +293,40 @@ within_two ns zero i h = cc
 within_two ns (suc zero) i h = absurd (omega arith)
 within_two ns (suc (suc n)) i h = expr_fine ns n
 
-with_expr_fine : (ns : Names) (n : ℕ) (f : Expr → Directive) → Fine 1 (read.with_expr ns n f)
+pub with_expr_fine : (ns : Names) (n : ℕ) (f : Expr → Directive) → Fine 1 (read.with_expr ns n f)
 unfolding read.with_expr
 with_expr_fine ns n f = fine_first (fine_first fine_takes (λ p. double_bracket_fine n (within (within (λ n. read.expr ns n)) n) (within_two ns n))) (λ a. fine_pure (f a))
 
-ended_fine : (p : Parser Directive) → Fine 1 p → Fine 1 (read.ended p)
+pub ended_fine : (p : Parser Directive) → Fine 1 p → Fine 1 (read.ended p)
 unfolding read.ended
 ended_fine p one = fine_ahead tree.pos_of place_ahead (λ at. p >>= (λ a. expect m.Semicolon >>= (λ _. pure (s.Directive at a)))) (λ at. fine_first one (λ a. fine_then (fine_expect m.Semicolon) (λ q. fine_pure (s.Directive at a))))
 
-first_of_fine : (ns : Names) (n : ℕ) → Fine 0 (read.first_of ns n)
+pub first_of_fine : (ns : Names) (n : ℕ) → Fine 0 (read.first_of ns n)
 unfolding read.first_of read.declares
 first_of_fine ns n = fine_if (sees m.Semicolon) (sees_ahead m.Semicolon) (fine_pure first.Nothing)
     (fine_if (begins_type ns) (type_ahead ns)
         (fine_then (specifiers_fine ns n) (λ t. fine_then (declr_fine ns n) (λ x. fine_then (fine_expect m.Equal) (λ p. fine_then (expr_fine ns n) (λ a. fine_pure (first.Declares t x p a))))))
         (fine_then (simple_fine ns n) (λ a. fine_pure (first.Simple a))))
 
-expr_before_fine : (ns : Names) (mk : Punct) (n : ℕ) → Fine 0 (read.expr_before ns mk n)
+pub expr_before_fine : (ns : Names) (mk : Punct) (n : ℕ) → Fine 0 (read.expr_before ns mk n)
 unfolding read.expr_before
 expr_before_fine ns mk n = fine_if (sees mk) (sees_ahead mk) (fine_pure None) (fine_then (expr_fine ns n) (λ a. fine_pure (Some a)))
 
-simple_before_fine : (ns : Names) (mk : Punct) (n : ℕ) → Fine 0 (read.simple_before ns mk n)
+pub simple_before_fine : (ns : Names) (mk : Punct) (n : ℕ) → Fine 0 (read.simple_before ns mk n)
 unfolding read.simple_before
 simple_before_fine ns mk n = fine_if (sees mk) (sees_ahead mk) (fine_pure None) (fine_then (simple_fine ns n) (λ a. fine_pure (Some a)))
 
-condition_fine : (ns : Names) (n : ℕ) → Fine 1 (read.condition ns n)
+pub condition_fine : (ns : Names) (n : ℕ) → Fine 1 (read.condition ns n)
 unfolding read.condition
 condition_fine ns n = fine_opens_then n m.OpenParen (λ i h p. fine_then (fine_within (read.expr ns) (expr_fine ns) n i h) (λ a. fine_then (fine_expect m.CloseParen) (λ q. fine_pure a)))
 
-label_by_fine : (ns : Names) (n : ℕ) (o : Option Keyword) → Fine 1 (read.label_by ns n o)
+pub label_by_fine : (ns : Names) (n : ℕ) (o : Option Keyword) → Fine 1 (read.label_by ns n o)
 unfolding read.case read.default
 label_by_fine ns n (Some k.Case) = fine_first fine_takes (λ p. fine_then (expr_fine ns n) (λ a. fine_then (fine_expect m.Colon) (λ q. fine_pure (label.Case p a))))
 label_by_fine ns n (Some k.Default) = fine_first fine_takes (λ p. fine_then (fine_expect m.Colon) (λ q. fine_pure (label.Default p)))
 label_by_fine ns n o = fine_refuse 1
 
-a_label_fine : (ns : Names) (n : ℕ) → Fine 1 (read.a_label ns n)
+pub a_label_fine : (ns : Names) (n : ℕ) → Fine 1 (read.a_label ns n)
 unfolding read.a_label
 a_label_fine ns n = fine_ahead key_at key_ahead (read.label_by ns n) (label_by_fine ns n)
 
@@ -343,29 +343,29 @@ label_ahead : Ahead begins_with_label
 label_ahead t r s = refl
 
 module _ (ns : Names) (n : ℕ) (bodies : Bodies) (deeper : IsFine n bodies) where
-  block_fine : Fine 1 (read.block ns n bodies)
+  pub block_fine : Fine 1 (read.block ns n bodies)
   unfolding read.block
   block_fine = fine_opens_then n m.OpenBrace (λ i h p. fine_then (deeper.items i h) (λ is. fine_then (fine_expect m.CloseBrace) (λ q. fine_pure (s.Block (tree.block p is q)))))
 
-  empty_fine : Fine 1 (read.empty ns n bodies)
+  pub empty_fine : Fine 1 (read.empty ns n bodies)
   unfolding read.empty
   empty_fine = fine_first fine_takes (λ p. fine_pure (s.Empty p))
 
-  call_stmt_fine : Fine 1 (read.call_stmt ns n bodies)
+  pub call_stmt_fine : Fine 1 (read.call_stmt ns n bodies)
   unfolding read.call_stmt
   call_stmt_fine = fine_first (call_fine ns n) (λ c. fine_then (fine_expect m.Semicolon) (λ p. fine_pure (s.Call c)))
 
   gives_tail : (x : Place) (p : Pos) → Fine 1 (read.call ns n >>= (λ c. expect m.Semicolon >>= (λ _. pure (s.Gives x p c))))
   gives_tail x p = fine_first (call_fine ns n) (λ c. fine_then (fine_expect m.Semicolon) (λ q. fine_pure (s.Gives x p c)))
 
-  gives_fine : (x : Place) → Fine 0 (read.gives ns n bodies x)
+  pub gives_fine : (x : Place) → Fine 0 (read.gives ns n bodies x)
   unfolding read.gives
   gives_fine x = fine_then (fine_expect m.Equal) (gives_tail x)
 
   simple_tail : (a : Simple) → Fine 0 (expect m.Semicolon >>= (λ _. pure (s.Simple a)))
   simple_tail a = fine_then (fine_expect m.Semicolon) (λ q. fine_pure (s.Simple a))
 
-  simple_ended_fine : {k : ℕ} (p : Parser Simple) → Fine k p → Fine k (read.simple_ended ns n bodies p)
+  pub simple_ended_fine : {k : ℕ} (p : Parser Simple) → Fine k p → Fine k (read.simple_ended ns n bodies p)
   unfolding read.simple_ended
   simple_ended_fine p one = fine_first one simple_tail
 
@@ -414,7 +414,7 @@ module _ (ns : Names) (n : ℕ) (bodies : Bodies) (deeper : IsFine n bodies) whe
   comes_second star x (Mark m.Equal) p t r s = comes_name star x p t.word t.pos r s
   comes_second star x w p t r s = inl refl
 
-  assigned_stmt_fine : (star : Bool) (x : Place) → Fine 0 (read.assigned_stmt ns n bodies star x)
+  pub assigned_stmt_fine : (star : Bool) (x : Place) → Fine 0 (read.assigned_stmt ns n bodies star x)
   unfolding read.assigned_stmt
   assigned_stmt_fine star x = fine_look call_comes (gives_fine x) (simple_ended_fine (read.assigned ns n star x) (assigned_fine ns n star x)) comes_far
       (λ t r s. comes_near star x t.word t.pos r s) (λ c t r s. comes_second star x c.word c.pos t r s)
@@ -422,36 +422,36 @@ module _ (ns : Names) (n : ℕ) (bodies : Bodies) (deeper : IsFine n bodies) whe
   placed_other : Fine 1 (λ ts. (read.place ns n >>= read.assigned_stmt ns n bodies (begins_with_star ts)) ts)
   placed_other = fine_ahead begins_with_star (star_ahead ns n) (λ star. read.place ns n >>= read.assigned_stmt ns n bodies star) (λ star. fine_first (place_fine ns n) (assigned_stmt_fine star))
 
-  placed_fine : Fine 1 (read.placed ns n bodies)
+  pub placed_fine : Fine 1 (read.placed ns n bodies)
   unfolding read.placed read.call_stmt
   placed_fine = call_or_fine ns n (read.call_stmt ns n bodies) (λ ts. (read.place ns n >>= read.assigned_stmt ns n bodies (begins_with_star ts)) ts) call_stmt_fine placed_other
       (λ w at us. shrink_then {j = 0} {k = 0} 0 (omega arith) (λ c. (fine_then (fine_expect m.Semicolon) (λ p. fine_pure (s.Call c))).shrinks) us (call_gone ns n w at us))
       (λ w at us. shrink_then {j = 0} {k = 0} 0 (omega arith) (λ x. (assigned_stmt_fine false x).shrinks) us (name_place ns n w at us))
 
-  if_with_fine : (p : Pos) (c : Expr) (a : Stmt) → Fine 0 (read.if_with ns n bodies p c a)
+  pub if_with_fine : (p : Pos) (c : Expr) (a : Stmt) → Fine 0 (read.if_with ns n bodies p c a)
   if_with_fine p c a = fine_if begins_with_else else_ahead (fine_then fine_takes (λ q. fine_then deeper.stmt (λ b. fine_pure (s.IfElse p c a b)))) (fine_pure (s.If p c a))
 
-  if_fine : Fine 1 (read.if_stmt ns n bodies)
+  pub if_fine : Fine 1 (read.if_stmt ns n bodies)
   unfolding read.if_stmt
   if_fine = fine_first fine_takes (λ p. fine_then (condition_fine ns n) (λ c. fine_then deeper.stmt (λ a. if_with_fine p c a)))
 
-  while_fine : Fine 1 (read.while_stmt ns n bodies)
+  pub while_fine : Fine 1 (read.while_stmt ns n bodies)
   unfolding read.while_stmt
   while_fine = fine_first fine_takes (λ p. fine_then (condition_fine ns n) (λ c. fine_then deeper.stmt (λ a. fine_pure (s.While p c a))))
 
-  while_by_fine : (o : Option Keyword) → Fine 1 (read.while_by ns n bodies o)
+  pub while_by_fine : (o : Option Keyword) → Fine 1 (read.while_by ns n bodies o)
   while_by_fine (Some k.While) = fine_takes
   while_by_fine o = fine_refuse 1
 
-  expect_while_fine : Fine 1 (read.expect_while ns n bodies)
+  pub expect_while_fine : Fine 1 (read.expect_while ns n bodies)
   unfolding read.expect_while
   expect_while_fine = fine_ahead key_at key_ahead (read.while_by ns n bodies) while_by_fine
 
-  do_fine : Fine 1 (read.do_stmt ns n bodies)
+  pub do_fine : Fine 1 (read.do_stmt ns n bodies)
   unfolding read.do_stmt
   do_fine = fine_first fine_takes (λ p. fine_then deeper.stmt (λ a. fine_then expect_while_fine (λ q. fine_then (condition_fine ns n) (λ c. fine_then (fine_expect m.Semicolon) (λ r. fine_pure (s.DoWhile p a c))))))
 
-  for_fine : Fine 1 (read.for_stmt ns n bodies)
+  pub for_fine : Fine 1 (read.for_stmt ns n bodies)
   unfolding read.for_stmt
   for_fine =
       fine_first fine_takes (λ p.
@@ -465,7 +465,7 @@ module _ (ns : Names) (n : ℕ) (bodies : Bodies) (deeper : IsFine n bodies) whe
       fine_then deeper.stmt (λ a.
       fine_pure (s.For p f c x a))))))))))
 
-  switch_fine : Fine 1 (read.switch_stmt ns n bodies)
+  pub switch_fine : Fine 1 (read.switch_stmt ns n bodies)
   unfolding read.switch_stmt
   switch_fine =
       fine_first fine_takes (λ p.
@@ -475,22 +475,22 @@ module _ (ns : Names) (n : ℕ) (bodies : Bodies) (deeper : IsFine n bodies) whe
       fine_then (fine_expect m.CloseBrace) (λ q.
       fine_pure (s.Switch p c gs))))))
 
-  break_fine : Fine 1 (read.break ns n bodies)
+  pub break_fine : Fine 1 (read.break ns n bodies)
   unfolding read.break
   break_fine = fine_first fine_takes (λ p. fine_then (fine_expect m.Semicolon) (λ q. fine_pure (s.Break p)))
 
-  return_fine : Fine 1 (read.return ns n bodies)
+  pub return_fine : Fine 1 (read.return ns n bodies)
   unfolding read.return
   return_fine = fine_first fine_takes (λ p. fine_then (expr_before_fine ns m.Semicolon n) (λ a. fine_then (fine_expect m.Semicolon) (λ q. fine_pure (s.Return p a))))
 
-  mark_stmt_fine : (o : Option Punct) → Fine 1 (read.mark_stmt ns n bodies o)
+  pub mark_stmt_fine : (o : Option Punct) → Fine 1 (read.mark_stmt ns n bodies o)
   mark_stmt_fine (Some m.OpenBrace) = block_fine
   mark_stmt_fine (Some m.Semicolon) = empty_fine
   mark_stmt_fine (Some m.PlusPlus) = simple_ended_fine (read.simple ns n) (simple_fine ns n)
   mark_stmt_fine (Some m.MinusMinus) = simple_ended_fine (read.simple ns n) (simple_fine ns n)
   mark_stmt_fine o = placed_fine
 
-  stmt_by_fine : (o : Option Keyword) → Fine 1 (read.stmt_by ns n bodies o)
+  pub stmt_by_fine : (o : Option Keyword) → Fine 1 (read.stmt_by ns n bodies o)
   stmt_by_fine None = fine_ahead mark_at mark_ahead (read.mark_stmt ns n bodies) mark_stmt_fine
   stmt_by_fine (Some k.If) = if_fine
   stmt_by_fine (Some k.While) = while_fine
@@ -509,7 +509,7 @@ module _ (ns : Names) (n : ℕ) (bodies : Bodies) (deeper : IsFine n bodies) whe
   unfolding read.stmt
   stmt_fine = fine_ahead key_at key_ahead (read.stmt_by ns n bodies) stmt_by_fine
 
-  block_item_fine : (one : Parser Stmt) → Fine 1 one → Fine 1 (read.block_item ns n bodies one)
+  pub block_item_fine : (one : Parser Stmt) → Fine 1 one → Fine 1 (read.block_item ns n bodies one)
   unfolding read.block_item
   block_item_fine one each = fine_if (begins_type ns) (type_ahead ns) (fine_first (local_fine ns n) (λ l. fine_pure (item.Local l))) (fine_first each (λ a. fine_pure (item.Stmt a)))
 
@@ -525,7 +525,7 @@ module _ (ns : Names) (n : ℕ) (bodies : Bodies) (deeper : IsFine n bodies) whe
   unfolding sees
   goes_on_ahead t r s = refl
 
-  a_group_fine : Fine 1 (read.a_group ns n bodies)
+  pub a_group_fine : Fine 1 (read.a_group ns n bodies)
   unfolding read.a_group
   a_group_fine = fine_first (a_label_fine ns n) (λ l. fine_then (fine_many begins_with_label label_ahead (a_label_fine ns n)) (λ ls. fine_then (fine_many (read.goes_on ns n bodies) goes_on_ahead deeper.stmt) (λ ss. fine_pure (tree.group (l ∷ ls) ss))))
 

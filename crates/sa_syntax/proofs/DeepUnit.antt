@@ -41,10 +41,10 @@ unfolding read.begins_stmt key_at mark_at name_at
 no_stmt_shrinks ns [] = Shrinks.stuck
 no_stmt_shrinks ns (t ∷ ts) = shrink_cond (read.begins_stmt ns (t ∷ ts)) (Shrinks.deep [] refl) Shrinks.stuck
 
-no_stmt_fine : (ns : Names) → Fine 1 (read.no_stmt ns)
+pub no_stmt_fine : (ns : Names) → Fine 1 (read.no_stmt ns)
 no_stmt_fine ns = record { shrinks = no_stmt_shrinks ns; local = λ b t r s. local_cond (read.begins_stmt ns (b ++ t ∷ r)) (read.begins_stmt ns (b ++ t ∷ s)) (same_first (read.begins_stmt ns) (fine.begins_ahead ns) b t r s) (Local.deep b) Local.stuck }
 
-bodies_fine : (ns : Names) (n : ℕ) → IsFine n (read.bodies ns n)
+pub bodies_fine : (ns : Names) (n : ℕ) → IsFine n (read.bodies ns n)
 unfolding read.bodies
 bodies_fine ns zero = record { stmt = no_stmt_fine ns; items = λ i h. cc; groups = λ i h. cc }
 bodies_fine ns (suc n) =
@@ -52,7 +52,7 @@ bodies_fine ns (suc n) =
     let one = read.bodies ns n in
     record { stmt = fine.stmt_fine ns n one below; items = λ i h. fine.block_items_fine ns n one below one.stmt below.stmt; groups = λ i h. fine.groups_fine ns n one below }
 
-outermost_fine : (ns : Names) (n : ℕ) → Fine 0 (read.outermost ns n)
+pub outermost_fine : (ns : Names) (n : ℕ) → Fine 0 (read.outermost ns n)
 unfolding read.outermost
 outermost_fine ns n = fine.block_items_fine ns n (read.bodies ns n) (bodies_fine ns n) (read.stmt_at ns n) (fine.stmt_fine ns n (read.bodies ns n) (bodies_fine ns n))
 
@@ -66,7 +66,7 @@ module _ (ns : Names) (n : ℕ) where
   param_tail t = fine_then (fine_if (sees m.Star) (sees_ahead m.Star) (fine_then (fine_expect m.Star) (λ p. fine_pure (Some p))) (fine_pure None))
       (λ star. fine_if (λ ts. is_some (name_at ts)) some_name_ahead (fine_then fine_any_name (λ x. fine_pure (tree.param t star (Some x)))) (fine_pure (tree.param t star None)))
 
-  param_fine : Fine 0 (read.param ns n)
+  pub param_fine : Fine 0 (read.param ns n)
   unfolding read.param
   param_fine = fine_then (fine.specifiers_fine ns n) param_tail
 
@@ -92,7 +92,7 @@ module _ (ns : Names) (n : ℕ) where
       shrink_then {j = 0} {k = 0} 0 (omega arith) (λ ps. (fine_pure (given.List ps)).shrinks) r (list_front m.CloseParen (read.param ns n) param_fine (key k.Void p ∷ r) r (void_param p r)))
   void_near w p r s = inl refl
 
-  params_fine : Fine 0 (read.params ns n)
+  pub params_fine : Fine 0 (read.params ns n)
   unfolding read.params
   params_fine = fine_if (sees m.CloseParen) (sees_ahead m.CloseParen) (fine_after (fine_pure given.Empty))
       (fine_look is_void_alone (fine_after (fine_after (fine_pure given.Void))) (fine_then (fine_list m.CloseParen param_fine) (λ ps. fine_pure (given.List ps))) void_far
@@ -102,7 +102,7 @@ params_fine_at : (ns : Names) (n : ℕ) → Fine 0 (read.params ns n)
 params_fine_at ns n = params_fine ns n
 
 module _ (ns : Names) (n : ℕ) where
-  body_fine : (t : Specifiers) (x : Named) (ps : Params) → Fine 0 (read.body ns n t x ps)
+  pub body_fine : (t : Specifiers) (x : Named) (ps : Params) → Fine 0 (read.body ns n t x ps)
   unfolding read.body
   body_fine t x ps = loosen (fine_opens_then n m.OpenBrace (λ i h p. fine_then (fine_within (read.outermost ns) (outermost_fine ns) n i h) (λ is. fine_then (fine_expect m.CloseBrace) (λ q. fine_pure (top.Func t x ps (tree.block p is q))))))
 
@@ -110,14 +110,14 @@ module _ (ns : Names) (n : ℕ) where
   or_stuck true one = one
   or_stuck false one = fine_refuse 0
 
-  ends_fine : (t : Specifiers) (x : Named) (ps : Params) → Fine 0 (read.ends ns n t x ps)
+  pub ends_fine : (t : Specifiers) (x : Named) (ps : Params) → Fine 0 (read.ends ns n t x ps)
   unfolding read.ends
   ends_fine t x ps = fine_if (sees m.Semicolon) (sees_ahead m.Semicolon) (fine_after (fine_pure (top.Proto t x ps))) (or_stuck (all_named ps) (body_fine t x ps))
 
   function_tail : (t : Specifiers) (x : Named) → Fine 1 (opens n m.OpenParen >>= (λ _. within (read.params ns) n >>= (λ ps. read.ends ns n t x ps)))
   function_tail t x = fine_opens_then n m.OpenParen (λ i h p. fine_then (fine_within (read.params ns) (params_fine_at ns) n i h) (λ ps. ends_fine t x ps))
 
-  function_fine : (t : Specifiers) → Fine 1 (read.function ns n t)
+  pub function_fine : (t : Specifiers) → Fine 1 (read.function ns n t)
   unfolding read.function
   function_fine t = fine_first fine_any_name (function_tail t)
 
@@ -126,11 +126,11 @@ module _ (ns : Names) (n : ℕ) where
   function_gone t c us = shrink_then {j = 0} {k = 0} 0 (omega arith) (λ x vs. loosen_read ((function_tail t x).shrinks vs)) us (any_name_gone c us)
 
   -- ---- items
-  typedef_fine : Fine 1 (read.typedef ns n)
+  pub typedef_fine : Fine 1 (read.typedef ns n)
   unfolding read.typedef
   typedef_fine = fine_first fine_takes (λ p. fine_then (fine.specifiers_fine ns n) (λ t. fine_then fine_any_name (λ x. fine_then (fine_expect m.Semicolon) (λ q. fine_pure (top.Typedef p t x)))))
 
-  global_fine : (t : Specifiers) → Fine 1 (read.global ns n t)
+  pub global_fine : (t : Specifiers) → Fine 1 (read.global ns n t)
   unfolding read.global
   global_fine t = fine_first (fine_list m.Semicolon (fine.init_declr_fine ns n)) (λ ds. fine_pure (top.Global t ds))
 
@@ -155,23 +155,23 @@ module _ (ns : Names) (n : ℕ) where
   function_near t (Key j) p r s = inl refl
   function_near t (Mark j) p r s = inl refl
 
-  named_item_fine : (t : Specifiers) → Fine 1 (read.named_item ns n t)
+  pub named_item_fine : (t : Specifiers) → Fine 1 (read.named_item ns n t)
   unfolding read.named_item
   named_item_fine t = fine_look read.sees_function (function_fine t) (global_fine t) function_far (λ c r s. function_near t c.word c.pos r s) (λ c d r s. inl (function_second c d r s))
 
-  struct_or_fine : (p : Pos) (t : Specifiers) (o : Option Struct) → Fine 1 (read.struct_or ns n p t o)
+  pub struct_or_fine : (p : Pos) (t : Specifiers) (o : Option Struct) → Fine 1 (read.struct_or ns n p t o)
   struct_or_fine p t None = named_item_fine t
   struct_or_fine p t (Some x) = fine_mark_or m.Semicolon (top.Struct p x) (read.named_item ns n t) (named_item_fine t)
 
-  declared_fine : Fine 1 (read.declared ns n)
+  pub declared_fine : Fine 1 (read.declared ns n)
   unfolding read.declared
   declared_fine = fine_ahead tree.pos_of place_ahead (λ p. read.specifiers ns n >>= (λ t. read.struct_or ns n p t (read.struct_of t))) (λ p. fine_next (fine.specifiers_fine ns n) (λ t. struct_or_fine p t (read.struct_of t)))
 
-  item_by_fine : (o : Option Keyword) → Fine 1 (read.item_by ns n o)
+  pub item_by_fine : (o : Option Keyword) → Fine 1 (read.item_by ns n o)
   item_by_fine (Some k.Typedef) = typedef_fine
   item_by_fine o = declared_fine
 
-  an_item_fine : Fine 1 (read.an_item ns n)
+  pub an_item_fine : Fine 1 (read.an_item ns n)
   unfolding read.an_item
   an_item_fine = fine_ahead key_at key_ahead (read.item_by ns n) item_by_fine
 
@@ -194,7 +194,7 @@ local_items n (suc left) (suc more) ns found (d ∷ b) t r s h =
     turn _ _ 1 (λ x c g. local_items n left more (read.names_after ns x) (found ++ x ∷ []) c t r s (omega (arith, g, h))) (λ x us. shrink_items n left (read.names_after ns x) (found ++ x ∷ []) us)
     ((an_item_fine ns n).local (d ∷ b) t r s) ((an_item_fine ns n).shrinks (d ∷ b ++ t ∷ s))
 
-items_fine : (n : ℕ) → Fine 0 (λ ts. read.items_from n (turns ts) [] [] ts)
+pub items_fine : (n : ℕ) → Fine 0 (λ ts. read.items_from n (turns ts) [] [] ts)
 items_fine n = record { shrinks = λ ts. shrink_items n (turns ts) [] [] ts; local = λ b t r s. local_items n (turns (b ++ t ∷ r)) (turns (b ++ t ∷ s)) [] [] b t r s (omega arith) }
 
 pub source_fine : (n : ℕ) → Fine 0 (read.source n)
