@@ -22,4 +22,5 @@ pub mod DeepStmt
 pub mod DeepUnit
 pub mod ClosingLemmas
 pub mod ClosingExpr
+pub mod ClosingStmt
 pub mod Samples

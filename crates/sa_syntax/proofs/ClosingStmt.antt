@@ -1,0 +1,256 @@
+-- What is open in a part of a statement that goes too deep can be closed.
+use Rattle.std.proofs.Common.{◌≡◌, ℕ, zero, suc, ◌-◌, ◌≤◌, ◌<◌, ◌+◌, List, [], ◌∷◌, ◌++◌, Bool, true, false, cond, refl, sym, ap, ◌∙◌, subst, arith, length, ◌⊎◌, inl, inr, Option, Some, None}
+use Rattle.std.specs.Prelude.{◌&&◌, ◌||◌}
+use Rattle.sa_base.specs.declared.pos.Pos.{Pos}
+use Rattle.sa_tokens.specs.declared.keyword.Keyword.{Keyword}
+use Rattle.sa_tokens.specs.declared.keyword.Keyword.TheVariants as k
+use Rattle.sa_tokens.specs.declared.punct.Punct.{Punct}
+use Rattle.sa_tokens.specs.declared.punct.Punct.TheVariants as m
+use Rattle.sa_tokens.specs.declared.token.Word.{Word}
+use Rattle.sa_tokens.specs.declared.token.Word.TheVariants.{Name, Number, Key, Mark}
+use Rattle.sa_tokens.specs.declared.token.Token.{Token}
+use Rattle.sa_syntax.specs.declared.decl.Name.{Name as Named}
+use Rattle.sa_syntax.specs.declared.decl.Specifiers.{Specifiers}
+use Rattle.sa_syntax.specs.declared.decl.Struct.{Struct}
+use Rattle.sa_syntax.specs.declared.decl.Declr.{Declr}
+use Rattle.sa_syntax.specs.declared.decl.Init.{Init}
+use Rattle.sa_syntax.specs.declared.decl.Init.TheVariants as init
+use Rattle.sa_syntax.specs.declared.decl.Start.TheVariants as start
+use Rattle.sa_syntax.specs.declared.expr.Expr.{Expr}
+use Rattle.sa_syntax.specs.declared.expr.Expr.TheVariants as e
+use Rattle.sa_syntax.specs.declared.expr.Place.{Place}
+use Rattle.sa_syntax.specs.declared.stmt.Compound.{Compound}
+use Rattle.sa_syntax.specs.declared.stmt.Turn.{Turn}
+use Rattle.sa_syntax.specs.declared.stmt.Simple.{Simple}
+use Rattle.sa_syntax.specs.declared.stmt.Simple.TheVariants as simply
+use Rattle.sa_syntax.specs.declared.stmt.Arg.{Arg}
+use Rattle.sa_syntax.specs.declared.stmt.ArgValue.{ArgValue}
+use Rattle.sa_syntax.specs.declared.stmt.ArgValue.TheVariants as value
+use Rattle.sa_syntax.specs.declared.stmt.Call.{Call}
+use Rattle.sa_syntax.specs.declared.stmt.Directive.{Directive}
+use Rattle.sa_syntax.specs.declared.stmt.Directive.TheVariants as d
+use Rattle.sa_syntax.specs.declared.stmt.First.TheVariants as first
+use Rattle.sa_syntax.specs.declared.stmt.Label.{Label}
+use Rattle.sa_syntax.specs.declared.stmt.Label.TheVariants as label
+use Rattle.sa_syntax.specs.declared.stmt.LocalStart.TheVariants as begins
+use Rattle.sa_syntax.specs.declared.stmt.Stmt.{Stmt}
+use Rattle.sa_syntax.specs.declared.stmt.Stmt.TheVariants as s
+use Rattle.sa_syntax.specs.declared.stmt.BlockItem.TheVariants as item
+use Rattle.sa_syntax.specs.declared.unit.Params.{Params}
+use Rattle.sa_syntax.specs.declared.unit.Params.TheVariants as given
+use Rattle.sa_syntax.specs.declared.unit.Item.{Item}
+use Rattle.sa_syntax.specs.declared.unit.Item.TheVariants as top
+use Rattle.sa_syntax.specs.Trees as tree
+use Rattle.sa_syntax.specs.Words.{Names, mark, key, word, named, is_type_name, compound_of, turn_of, begins_with_star, begins_with_else, begins_with_label, is_void_alone}
+use Rattle.sa_syntax.specs.Expressions.{Whole, Place', Steps, Specifiers', Declr', Bounds, ScalarWords, Struct'}
+use Rattle.sa_syntax.specs.Statements.{all_named, Init', Inits, InitDeclr', InitDeclrs, ArgValue', Args, Call', Simple', LocalDeclr', LocalDeclrs, Local', Directive', First', Condition', Next', Label', Labels, Stmt', Nested, Groups, Body, Outermost}
+use Rattle.sa_syntax.specs.Reading.{Parser, Read, Got, Stuck, Deep, and_then, same_mark, is_mark, sees, after, expect, opens, any_name, variable, name_at, key_at, mark_at, unless_type, taken, many, turns, pure, refuse, ◌>>=◌, ◌>>◌}
+use Rattle.sa_syntax.specs.ReadExpr.{begins_type, is_some, inside}
+use Rattle.sa_syntax.specs.ReadExpr as expr
+use Rattle.sa_syntax.specs.ReadStmt as read
+use Rattle.sa_syntax.specs.ReadStmt.{Bodies, takes, within, list}
+use Rattle.sa_syntax.proofs.ReadingLemmas.{Yields, map_yields, if_yields, Marked, Opened, IsWord, IsVariable, Keyed, KeyAt, MarkAt, name_at_is, key_at_is, mark_at_is, sees_is}
+use Rattle.sa_syntax.proofs.ExprSound.{Within}
+use Rattle.sa_syntax.proofs.StmtSound as sound
+use Rattle.sa_syntax.proofs.StmtSound.{InBrackets}
+use Rattle.sa_syntax.proofs.RoomLemmas.{Less}
+use Rattle.sa_syntax.proofs.StmtRoom as room
+use Rattle.sa_syntax.proofs.DeepLemmas.{loosen, sees_ahead, Ahead}
+use Rattle.sa_syntax.proofs.DeepStmt as fine
+use Rattle.sa_syntax.proofs.ExprSound as expr_sound
+use Rattle.sa_syntax.proofs.ExprRoom as expr_room
+use Rattle.sa_syntax.proofs.DeepExpr as expr_fine
+use Rattle.sa_syntax.proofs.ClosingLemmas.{Closed, Calm, Good, Any, Some', Front, calm_then, calm_if, calm_takes, calm_ends, closed_calm, closed_map, closed_if, closed_any, closed_reader, deeper_room, closed_then, closed_next, closed_last, closed_opens, opens_from, closed_many, list_closed, calm_expect, calm_any_name, calm_variable, calm_many, good_leaf, good_expect, good_any_name, good_variable, good_opens, opens_closed, stepped}
+use Rattle.sa_syntax.proofs.ClosingExpr as closing
+use Rattle.sa_syntax.proofs.ClosingExpr.{spot, close, nought, fresh, fresh-is, zero-whole, letter, letter_declr, int, int_type, int-type, good_whole, good_type, good_declr, all_closed}
+
+abbrev pub zero_expr : Expr
+zero_expr = e.Number 0 false 0 false spot
+
+module _ (ns : Names) (n : ℕ) where
+  expr_closed : (ts : List Token) → Closed Any (Some' (Whole ns)) n ts (read.expr ns n ts)
+  expr_closed ts = closed_any (closing.whole_closed ns n (λ i h. all_closed ns i) ts)
+
+  place_closed : (ts : List Token) → Closed Any (Some' (Place' ns)) n ts (read.place ns n ts)
+  place_closed ts = closed_any (closing.place_closed ns n (λ i h. all_closed ns i) ts)
+
+  pub specifiers_closed : (ts : List Token) → Closed Any (Some' (Specifiers' ns)) n ts (read.specifiers ns n ts)
+  specifiers_closed ts = closed_any (closing.specifiers_closed ns n (λ i h. all_closed ns i) ts)
+
+  pub declr_closed : (ts : List Token) → Closed Any (Some' (Declr' ns)) n ts (read.declr ns n ts)
+  declr_closed ts = closed_any (closing.declr_closed ns n (λ i h. all_closed ns i) ts)
+
+good_place : (ns : Names) → Good (λ n. read.place ns n) (Place' ns)
+good_place ns = record { fine = λ n. loosen (fine.place_fine ns n); less = expr_room.place_less ns; sound = expr_sound.place_yields ns }
+
+-- ---- initialisers
+good_init : (ns : Names) → Good (λ n. read.init_at ns n) (Init' ns)
+good_init ns = record { fine = fine.init_at_fine ns; less = room.init_at_room ns; sound = sound.init_at_sound ns }
+
+next_inits : (ns : Names) (more : ℕ) (ss : List Token) (i : Init) (us : List Token) (p : Pos) (vs : List Token) (is : List Init) (ws : List Token) → Init' ns more ss i us → Marked m.Comma us p vs → Inits ns more vs is ws → Inits ns more ss (i ∷ is) ws
+next_inits ns more ss i _ p vs is ws j Marked.marked go = Inits.next_init j go
+
+inits_from_closed : (ns : Names) (i : ℕ) → ((ts : List Token) → Closed Any (Some' (Init' ns)) i ts (read.init_at ns i ts)) → (left : ℕ) (found : List Init) (ts : List Token) → Closed Any (Some' (Inits ns)) i ts (read.inits_from (read.init_at ns i) left found ts)
+unfolding read.inits_from
+inits_from_closed ns i each zero found ts = Closed.stuck
+inits_from_closed ns i each (suc left) found ts =
+    closed_then (good_init ns) i ts (close m.CloseBrace ∷ []) (λ more ss x rest j. (x ∷ [], Inits.last_init j)) (each ts) (λ x us.
+    closed_reader _ _ (sees m.Comma us) us
+    (λ h. closed_next (good_expect m.Comma) i us (calm_expect m.Comma us) (λ p vs.
+        closed_reader _ _ (sees m.CloseBrace vs) vs
+        (λ g. closed_calm (calm_ends m.CloseBrace (found ++ x ∷ []) vs))
+        (λ g. closed_map (λ more ws rest r us c ss j. (x ∷ (r.0), next_inits ns more ss x us p ws (r.0) rest j c (r.1))) (inits_from_closed ns i each left (found ++ x ∷ []) vs))))
+    (λ h. closed_calm (calm_ends m.CloseBrace (found ++ x ∷ []) us)))
+
+braces_closed : (ns : Names) (n : ℕ) (one : Parser Init) → ((i : ℕ) → n ≡ suc i → (ts : List Token) → Closed Any (Some' (Inits ns)) i ts (read.inits_from one (turns ts) [] ts)) → (ts : List Token) → Closed Any (Some' (Init' ns)) n ts (read.braces n one ts)
+unfolding read.braces
+braces_closed ns n one each ts = closed_opens (λ n p. (λ ts. read.inits_from one (turns ts) [] ts) >>= (λ is. pure (init.Braces p is))) n m.OpenBrace ts (nought ∷ close m.CloseBrace ∷ []) (λ p. tt)
+    (λ more p rest. (init.Braces p (init.Value zero_expr ∷ []), Init'.braces (Inits.last_init (Init'.init_value (zero-whole ns more (close m.CloseBrace ∷ rest))))))
+    (λ i h p us. closed_last i us [] (λ more vs is rest j. (init.Braces p is, Init'.braces j)) (each i h us) (λ is vs. Calm.got))
+
+init_by_closed : (ns : Names) (n : ℕ) (one : Parser Init) → ((i : ℕ) → n ≡ suc i → (ts : List Token) → Closed Any (Some' (Inits ns)) i ts (read.inits_from one (turns ts) [] ts)) → (ts : List Token) → Closed Any (Some' (Init' ns)) n ts (read.init_by ns n one ts)
+unfolding read.init_by
+init_by_closed ns n one each ts = closed_if (sees m.OpenBrace ts) (λ h. braces_closed ns n one each ts)
+    (λ h. closed_last n ts [] (λ more ss a rest w. (init.Value a, Init'.init_value w)) (expr_closed ns n ts) (λ a us. Calm.got))
+
+init_at_closed : (ns : Names) (n : ℕ) (ts : List Token) → Closed Any (Some' (Init' ns)) n ts (read.init_at ns n ts)
+unfolding read.init_at
+init_at_closed ns zero ts = init_by_closed ns zero (λ ts. Deep ts) (λ i h. cc) ts
+init_at_closed ns (suc n) ts = init_by_closed ns (suc n) (read.init_at ns n) (λ i h us. let same : n ≡ i = omega (arith, h) in
+    subst (λ i. Closed Any (Some' (Inits ns)) i us (read.inits_from (read.init_at ns n) (turns us) [] us)) same (inits_from_closed ns n (init_at_closed ns n) (turns us) [] us)) ts
+
+init_with : (ns : Names) (more : ℕ) (ss : List Token) (x : Declr) (us : List Token) (p : Pos) (vs : List Token) (i : Init) (rest : List Token) → Declr' ns more ss x us → Marked m.Equal us p vs → Init' ns more vs i rest → InitDeclr' ns more ss (tree.init_declr x (start.Init p i)) rest
+init_with ns more ss x _ p vs i rest j Marked.marked go = InitDeclr'.with_init j go
+
+pub init_declr_closed : (ns : Names) (n : ℕ) (ts : List Token) → Closed Any (Some' (InitDeclr' ns)) n ts (read.init_declr ns n ts)
+unfolding read.init_declr
+init_declr_closed ns n ts = closed_then (good_declr ns) n ts [] (λ more ss x rest i. (tree.init_declr x start.Nothing, InitDeclr'.plain i)) (declr_closed ns n ts) (λ x us.
+    closed_if (sees m.Equal us)
+    (λ h. closed_next (good_expect m.Equal) n us (calm_expect m.Equal us) (λ p vs.
+        closed_last n vs [] (λ more ws i rest j us c ss d. (tree.init_declr x (start.Init p i), init_with ns more ss x us p ws i rest d c j)) (init_at_closed ns n vs) (λ i ws. Calm.got)))
+    (λ h. Closed.got))
+
+-- ---- calls
+value_reference : (ns : Names) (more : ℕ) (ss : List Token) (p : Pos) (us : List Token) (x : Place) (rest : List Token) → Marked m.Ampersand ss p us → Place' ns more us x rest → ArgValue' ns more ss (value.Reference p x) rest
+value_reference ns more _ p us x rest Marked.marked i = ArgValue'.reference i
+
+good_arg : (ns : Names) → Good (λ n. read.arg_value ns n) (ArgValue' ns)
+good_arg ns = record { fine = fine.arg_value_fine ns; less = room.arg_value_room ns; sound = sound.arg_value_sound ns }
+
+arg_value_closed : (ns : Names) (n : ℕ) (ts : List Token) → Closed Any (Some' (ArgValue' ns)) n ts (read.arg_value ns n ts)
+unfolding read.arg_value
+arg_value_closed ns n ts = closed_if (sees m.Ampersand ts)
+    (λ h. closed_next (good_expect m.Ampersand) n ts (calm_expect m.Ampersand ts) (λ p us. closed_last n us [] (λ more vs x rest i ss c. (value.Reference p x, value_reference ns more ss p vs x rest c i)) (place_closed ns n us) (λ x vs. Calm.got)))
+    (λ h. closed_last n ts [] (λ more ss a rest w. (value.Value a, ArgValue'.by_value w)) (expr_closed ns n ts) (λ a us. Calm.got))
+
+next_args : (ns : Names) (more : ℕ) (p : Pos) (ss : List Token) (v : ArgValue) (us : List Token) (q : Pos) (vs : List Token) (xs : List Arg) (ws : List Token) → ArgValue' ns more ss v us → Marked m.Comma us q vs → Args ns more q vs xs ws → Args ns more p ss (tree.arg p v ∷ xs) ws
+next_args ns more p ss v _ q vs xs ws i Marked.marked go = Args.next_arg i go
+
+args_from_closed : (ns : Names) (n left : ℕ) (p : Pos) (found : List Arg) (ts : List Token) → Closed Any (Some' (λ more ss xs us. Args ns more p ss xs us)) n ts (read.args_from ns n left p found ts)
+unfolding read.args_from
+args_from_closed ns n zero p found ts = Closed.stuck
+args_from_closed ns n (suc left) p found ts =
+    closed_then (good_arg ns) n ts (close m.CloseParen ∷ []) (λ more ss v rest i. (tree.arg p v ∷ [], Args.last_arg i)) (arg_value_closed ns n ts) (λ v us.
+    closed_if (sees m.Comma us)
+    (λ h. closed_next (good_expect m.Comma) n us (calm_expect m.Comma us) (λ q vs.
+        closed_map (λ more ws rest r us c ss i. (tree.arg p v ∷ (r.0), next_args ns more p ss v us q ws (r.0) rest i c (r.1))) (args_from_closed ns n left q (found ++ tree.arg p v ∷ []) vs)))
+    (λ h. closed_calm (calm_ends m.CloseParen (found ++ tree.arg p v ∷ []) us)))
+
+args_closed : (ns : Names) (p : Pos) (n : ℕ) (ts : List Token) → Closed Any (Some' (λ more ss xs us. Args ns more p ss xs us)) n ts (read.args ns p n ts)
+unfolding read.args
+args_closed ns p n ts = closed_if (sees m.CloseParen ts) (λ h. Closed.got) (λ h. args_from_closed ns n (turns ts) p [] ts)
+
+call_none : (ns : Names) (more : ℕ) (ss : List Token) (x : Named) (p : Pos) (rest : List Token) → IsVariable ns ss x (mark m.OpenParen p ∷ close m.CloseParen ∷ rest) → Call' ns (suc more) ss (tree.call x []) rest
+call_none ns more _ _ p rest (IsVariable.is_variable h) = Call'.no_args h
+
+call_some : (ns : Names) (more : ℕ) (ss : List Token) (x : Named) (p : Pos) (us : List Token) (xs : List Arg) (rest : List Token) → IsVariable ns ss x (mark m.OpenParen p ∷ us) → Args ns more p us xs rest → Call' ns (suc more) ss (tree.call x xs) rest
+call_some ns more _ _ p us xs rest (IsVariable.is_variable h) i = Call'.args h i
+
+good_call : (ns : Names) → Good (λ n. read.call ns n) (Call' ns)
+good_call ns = record { fine = λ n. loosen (fine.call_fine ns n); less = room.call_room ns; sound = sound.call_sound ns }
+
+call_closed : (ns : Names) (n : ℕ) (ts : List Token) → Closed Any (Some' (Call' ns)) n ts (read.call ns n ts)
+unfolding read.call
+call_closed ns n ts = closed_next (good_variable ns) n ts (calm_variable ns ts) (λ x us.
+    closed_opens (λ n p. within (read.args ns p) n >>= (λ xs. pure (tree.call x xs))) n m.OpenParen us (close m.CloseParen ∷ []) (λ p. tt)
+    (λ more p rest ss v. (tree.call x [], call_none ns more ss x p rest v))
+    (λ i h p vs. closed_last i vs [] (λ more ws xs rest a ss v. (tree.call x xs, call_some ns more ss x p ws xs rest v a)) (args_closed ns p i vs) (λ xs ws. Calm.got)))
+
+-- ---- assignments
+data TurnAt (t : Turn) : List Token → Type 0 where
+  turn_at : {mk : Punct} {p : Pos} {us : List Token} → turn_of mk ≡ Some t → TurnAt t (mark mk p ∷ us)
+
+marked_turn : (t : Turn) (mk : Punct) (ts : List Token) (p : Pos) (us : List Token) → Marked mk ts p us → turn_of mk ≡ Some t → TurnAt t ts
+marked_turn t mk _ p us Marked.marked h = TurnAt.turn_at h
+
+turn_is : (t : Turn) (o : Option Punct) (ts : List Token) → mark_at ts ≡ o → read.turn_in o ≡ Some t → TurnAt t ts
+turn_is t None ts e h = cc
+turn_is t (Some mk) ts e h = let k = mark_at_is ts mk e in marked_turn t mk ts (k.0) (after ts) (k.1) h
+
+before_closed : (ns : Names) (n : ℕ) (t : Turn) (ts : List Token) → TurnAt t ts → Closed Any (Some' (Simple' ns)) n ts (read.before ns n t ts)
+unfolding read.before
+before_closed ns n t _ (TurnAt.turn_at {mk} {p} {us} h) = stepped (mark mk p) (closed_last n us [] (λ more vs x rest i. (simply.Before t p x, Simple'.before h i)) (place_closed ns n us) (λ x vs. Calm.got))
+
+-- behind the place
+abbrev Behind : Names → Place → ℕ → List Token → List Token → Type 0
+Behind ns x more us rest = (ss : List Token) → Place' ns more ss x us → Some' (Simple' ns) more ss rest
+
+compounded_marked : (ns : Names) (n : ℕ) (x : Place) (op : Compound) (mk : Punct) (ts : List Token) (p : Pos) (us : List Token) → Marked mk ts p us → compound_of mk ≡ Some op → Closed Any (Behind ns x) n ts (read.compounded ns n x (Some op) ts)
+compounded_marked ns n x op mk _ p us Marked.marked h = stepped (mark mk p) (closed_last n us [] (λ more vs a rest w ss i. (simply.Compound x op p a, Simple'.compound i h w)) (expr_closed ns n us) (λ a vs. Calm.got))
+
+compounded_closed : (ns : Names) (n : ℕ) (x : Place) (o : Option Punct) (ts : List Token) → mark_at ts ≡ o → (c : Option Compound) → read.compound_in o ≡ c → Closed Any (Behind ns x) n ts (read.compounded ns n x c ts)
+compounded_closed ns n x o ts e None h = Closed.stuck
+compounded_closed ns n x None ts e (Some op) h = cc
+compounded_closed ns n x (Some mk) ts e (Some op) h = let k = mark_at_is ts mk e in compounded_marked ns n x op mk ts (k.0) (after ts) (k.1) h
+
+turned_closed : (ns : Names) (n : ℕ) (star : Bool) (x : Place) (o : Option Turn) (ts : List Token) → Closed Any (Behind ns x) n ts (read.turned ns n star x o ts)
+turned_closed ns n star x None ts = compounded_closed ns n x (mark_at ts) ts refl (read.compound_in (mark_at ts)) refl
+turned_closed ns n star x (Some t) ts = closed_calm (calm_if star Calm.stuck (calm_then (calm_takes ts) (λ p us. Calm.got)))
+
+assign_place : (ns : Names) (more : ℕ) (x : Place) (us : List Token) (p : Pos) (vs : List Token) (a : Expr) (rest : List Token) → Marked m.Equal us p vs → Whole ns more vs a rest → (ss : List Token) → Place' ns more ss x us → Simple' ns more ss (simply.Assign x p a) rest
+assign_place ns more x _ p vs a rest Marked.marked w ss i = Simple'.assign i w
+
+assigned_closed : (ns : Names) (n : ℕ) (star : Bool) (x : Place) (ts : List Token) → Closed Any (Behind ns x) n ts (read.assigned ns n star x ts)
+unfolding read.assigned
+assigned_closed ns n star x ts = closed_if (sees m.Equal ts)
+    (λ h. closed_next (good_expect m.Equal) n ts (calm_expect m.Equal ts) (λ p us. closed_last n us [] (λ more vs a rest w us c ss i. (simply.Assign x p a, assign_place ns more x us p vs a rest c w ss i)) (expr_closed ns n us) (λ a vs. Calm.got)))
+    (λ h. turned_closed ns n star x (read.turn_in (mark_at ts)) ts)
+
+simple_by_closed : (ns : Names) (n : ℕ) (o : Option Turn) (ts : List Token) → read.turn_in (mark_at ts) ≡ o → Closed Any (Some' (Simple' ns)) n ts (read.simple_by ns n o ts)
+simple_by_closed ns n (Some t) ts h = before_closed ns n t ts (turn_is t (mark_at ts) ts refl h)
+simple_by_closed ns n None ts h = closed_then (good_place ns) n ts (close m.Equal ∷ nought ∷ []) (λ more ss x rest i. (simply.Assign x spot zero_expr, Simple'.assign i (zero-whole ns more rest))) (place_closed ns n ts) (λ x us. assigned_closed ns n (begins_with_star ts) x us)
+
+pub simple_closed : (ns : Names) (n : ℕ) (ts : List Token) → Closed Any (Some' (Simple' ns)) n ts (read.simple ns n ts)
+unfolding read.simple
+simple_closed ns n ts = simple_by_closed ns n (read.turn_in (mark_at ts)) ts refl
+
+-- ---- locals
+local_init : (ns : Names) (more : ℕ) (ss : List Token) (x : Declr) (us : List Token) (p : Pos) (vs : List Token) (i : Init) (rest : List Token) → Declr' ns more ss x us → Marked m.Equal us p vs → Init' ns more vs i rest → LocalDeclr' ns more ss (tree.local_declr x (begins.Init p i)) rest
+local_init ns more ss x _ p vs i rest j Marked.marked go = LocalDeclr'.with_init j go
+
+local_call : (ns : Names) (more : ℕ) (ss : List Token) (x : Declr) (us : List Token) (p : Pos) (vs : List Token) (c : Call) (rest : List Token) → Declr' ns more ss x us → Marked m.Equal us p vs → Call' ns more vs c rest → LocalDeclr' ns more ss (tree.local_declr x (begins.Call p c)) rest
+local_call ns more ss x _ p vs c rest j Marked.marked go = LocalDeclr'.with_call j go
+
+local_start_closed : (ns : Names) (n : ℕ) (x : Declr) (us : List Token) → Closed Any (λ more us rest. (ss : List Token) → Declr' ns more ss x us → Some' (LocalDeclr' ns) more ss rest) n us (read.local_start ns n x us)
+unfolding read.local_start
+local_start_closed ns n x us = closed_next (good_expect m.Equal) n us (calm_expect m.Equal us) (λ p vs.
+    closed_if (read.sees_call ns vs)
+    (λ h. closed_last n vs [] (λ more ws c rest f us k ss d. (tree.local_declr x (begins.Call p c), local_call ns more ss x us p ws c rest d k f)) (call_closed ns n vs) (λ c ws. Calm.got))
+    (λ h. closed_last n vs [] (λ more ws i rest f us k ss d. (tree.local_declr x (begins.Init p i), local_init ns more ss x us p ws i rest d k f)) (init_at_closed ns n vs) (λ i ws. Calm.got)))
+
+good_local_declr : (ns : Names) → Good (λ n. read.local_declr ns n) (LocalDeclr' ns)
+good_local_declr ns = record { fine = λ n. loosen (fine.local_declr_fine ns n); less = room.local_declr_room ns; sound = sound.local_declr_sound ns }
+
+local_declr_closed : (ns : Names) (n : ℕ) (ts : List Token) → Closed Any (Some' (LocalDeclr' ns)) n ts (read.local_declr ns n ts)
+unfolding read.local_declr
+local_declr_closed ns n ts = closed_then (good_declr ns) n ts [] (λ more ss x rest i. (tree.local_declr x begins.Nothing, LocalDeclr'.plain i)) (declr_closed ns n ts) (λ x us. closed_if (sees m.Equal us) (λ h. local_start_closed ns n x us) (λ h. Closed.got))
+
+pub good_local : (ns : Names) → Good (λ n. read.local ns n) (Local' ns)
+good_local ns = record { fine = λ n. loosen (fine.local_fine ns n); less = room.local_room ns; sound = sound.local_sound ns }
+
+pub local_closed : (ns : Names) (n : ℕ) (ts : List Token) → Closed Any (Some' (Local' ns)) n ts (read.local ns n ts)
+unfolding read.local
+local_closed ns n ts = closed_then (good_type ns) n ts (word letter spot ∷ close m.Semicolon ∷ [])
+    (λ more ss t rest i. (tree.local t (tree.local_declr letter_declr begins.Nothing ∷ []), Local'.local i (LocalDeclrs.last_local (LocalDeclr'.plain (Declr'.declr Bounds.no_bound))))) (specifiers_closed ns n ts) (λ t us.
+    closed_last n us [] (λ more vs ds rest j ss i. (tree.local t ds, Local'.local i j))
+    (list_closed (LocalDeclr' ns) (LocalDeclrs ns) m.Semicolon (λ n. read.local_declr ns n) (good_local_declr ns) (λ more ts x p us i. LocalDeclrs.last_local i) (λ more ts x p us xs vs i go. LocalDeclrs.next_local i go) n (local_declr_closed ns n) us) (λ ds vs. Calm.got))
