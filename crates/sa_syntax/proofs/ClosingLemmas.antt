@@ -317,3 +317,11 @@ pub list_closed : {A : Type 0} {O : Token → Type 0} (One : ℕ → List Token 
     → ((more : ℕ) (ts : List Token) (x : A) (p : Pos) (us : List Token) (xs : List A) (vs : List Token) → One more ts x (mark m.Comma p ∷ us) → Rest more us xs vs → Rest more ts (x ∷ xs) vs)
     → (n : ℕ) → ((ts : List Token) → Closed O (Some' One) n ts (one n ts)) → (ts : List Token) → Closed O (Some' Rest) n ts (list close (one n) ts)
 list_closed One Rest close one good last next n each ts = list_closed_from One Rest close one good last next n each (turns ts) [] ts
+
+-- the last that can be too deep, of any form
+pub closed_tail : {A B : Type 0} {O : Token → Type 0} {Q R : ℕ → List Token → List Token → Type 0} {f : A → Parser B} (n : ℕ) (ts d : List Token) {x : Read A}
+    → ((more : ℕ) (ss rest : List Token) → Q more ss (d ++ rest) → R more ss rest)
+    → Closed O Q n ts x → ((a : A) (us : List Token) → Calm (f a us)) → Closed O R n ts (and_then x f)
+closed_tail n ts d go (Closed.got {a} {us}) calm = closed_calm (calm a us)
+closed_tail n ts d go Closed.stuck calm = Closed.stuck
+closed_tail {R = R} n ts d go (Closed.deep {t} b tail more e h o w) calm = Closed.deep b (tail ++ d) more e h o (λ rest. subst (λ z. R more (b ++ t ∷ z) rest) (sym (append_assoc tail d rest)) (go more _ rest (w (d ++ rest))))

@@ -60,7 +60,7 @@ use Rattle.sa_syntax.proofs.DeepStmt as fine
 use Rattle.sa_syntax.proofs.ExprSound as expr_sound
 use Rattle.sa_syntax.proofs.ExprRoom as expr_room
 use Rattle.sa_syntax.proofs.DeepExpr as expr_fine
-use Rattle.sa_syntax.proofs.ClosingLemmas.{Closed, Calm, Good, Any, Some', Front, calm_then, calm_if, calm_takes, calm_ends, closed_calm, closed_map, closed_if, closed_any, closed_reader, deeper_room, closed_then, closed_next, closed_last, closed_opens, opens_from, closed_many, list_closed, calm_expect, calm_any_name, calm_variable, calm_many, good_leaf, good_expect, good_any_name, good_variable, good_opens, opens_closed, stepped}
+use Rattle.sa_syntax.proofs.ClosingLemmas.{Closed, Calm, Good, Any, Some', Front, calm_then, calm_if, calm_takes, calm_ends, closed_calm, closed_map, closed_if, closed_any, closed_reader, deeper_room, closed_then, closed_next, closed_last, closed_tail, closed_opens, opens_from, closed_many, list_closed, calm_expect, calm_any_name, calm_variable, calm_many, good_leaf, good_expect, good_any_name, good_variable, good_opens, opens_closed, stepped}
 use Rattle.sa_syntax.proofs.ClosingExpr as closing
 use Rattle.sa_syntax.proofs.ClosingExpr.{spot, close, nought, fresh, fresh-is, zero-whole, letter, letter_declr, int, int_type, int-type, good_whole, good_type, good_declr, all_closed}
 
@@ -68,10 +68,10 @@ abbrev pub zero_expr : Expr
 zero_expr = e.Number 0 false 0 false spot
 
 module _ (ns : Names) (n : ℕ) where
-  expr_closed : (ts : List Token) → Closed Any (Some' (Whole ns)) n ts (read.expr ns n ts)
+  pub expr_closed : (ts : List Token) → Closed Any (Some' (Whole ns)) n ts (read.expr ns n ts)
   expr_closed ts = closed_any (closing.whole_closed ns n (λ i h. all_closed ns i) ts)
 
-  place_closed : (ts : List Token) → Closed Any (Some' (Place' ns)) n ts (read.place ns n ts)
+  pub place_closed : (ts : List Token) → Closed Any (Some' (Place' ns)) n ts (read.place ns n ts)
   place_closed ts = closed_any (closing.place_closed ns n (λ i h. all_closed ns i) ts)
 
   pub specifiers_closed : (ts : List Token) → Closed Any (Some' (Specifiers' ns)) n ts (read.specifiers ns n ts)
@@ -80,7 +80,7 @@ module _ (ns : Names) (n : ℕ) where
   pub declr_closed : (ts : List Token) → Closed Any (Some' (Declr' ns)) n ts (read.declr ns n ts)
   declr_closed ts = closed_any (closing.declr_closed ns n (λ i h. all_closed ns i) ts)
 
-good_place : (ns : Names) → Good (λ n. read.place ns n) (Place' ns)
+pub good_place : (ns : Names) → Good (λ n. read.place ns n) (Place' ns)
 good_place ns = record { fine = λ n. loosen (fine.place_fine ns n); less = expr_room.place_less ns; sound = expr_sound.place_yields ns }
 
 -- ---- initialisers
@@ -166,10 +166,10 @@ call_none ns more _ _ p rest (IsVariable.is_variable h) = Call'.no_args h
 call_some : (ns : Names) (more : ℕ) (ss : List Token) (x : Named) (p : Pos) (us : List Token) (xs : List Arg) (rest : List Token) → IsVariable ns ss x (mark m.OpenParen p ∷ us) → Args ns more p us xs rest → Call' ns (suc more) ss (tree.call x xs) rest
 call_some ns more _ _ p us xs rest (IsVariable.is_variable h) i = Call'.args h i
 
-good_call : (ns : Names) → Good (λ n. read.call ns n) (Call' ns)
+pub good_call : (ns : Names) → Good (λ n. read.call ns n) (Call' ns)
 good_call ns = record { fine = λ n. loosen (fine.call_fine ns n); less = room.call_room ns; sound = sound.call_sound ns }
 
-call_closed : (ns : Names) (n : ℕ) (ts : List Token) → Closed Any (Some' (Call' ns)) n ts (read.call ns n ts)
+pub call_closed : (ns : Names) (n : ℕ) (ts : List Token) → Closed Any (Some' (Call' ns)) n ts (read.call ns n ts)
 unfolding read.call
 call_closed ns n ts = closed_next (good_variable ns) n ts (calm_variable ns ts) (λ x us.
     closed_opens (λ n p. within (read.args ns p) n >>= (λ xs. pure (tree.call x xs))) n m.OpenParen us (close m.CloseParen ∷ []) (λ p. tt)
@@ -192,7 +192,7 @@ unfolding read.before
 before_closed ns n t _ (TurnAt.turn_at {mk} {p} {us} h) = stepped (mark mk p) (closed_last n us [] (λ more vs x rest i. (simply.Before t p x, Simple'.before h i)) (place_closed ns n us) (λ x vs. Calm.got))
 
 -- behind the place
-abbrev Behind : Names → Place → ℕ → List Token → List Token → Type 0
+abbrev pub Behind : Names → Place → ℕ → List Token → List Token → Type 0
 Behind ns x more us rest = (ss : List Token) → Place' ns more ss x us → Some' (Simple' ns) more ss rest
 
 compounded_marked : (ns : Names) (n : ℕ) (x : Place) (op : Compound) (mk : Punct) (ts : List Token) (p : Pos) (us : List Token) → Marked mk ts p us → compound_of mk ≡ Some op → Closed Any (Behind ns x) n ts (read.compounded ns n x (Some op) ts)
@@ -210,7 +210,7 @@ turned_closed ns n star x (Some t) ts = closed_calm (calm_if star Calm.stuck (ca
 assign_place : (ns : Names) (more : ℕ) (x : Place) (us : List Token) (p : Pos) (vs : List Token) (a : Expr) (rest : List Token) → Marked m.Equal us p vs → Whole ns more vs a rest → (ss : List Token) → Place' ns more ss x us → Simple' ns more ss (simply.Assign x p a) rest
 assign_place ns more x _ p vs a rest Marked.marked w ss i = Simple'.assign i w
 
-assigned_closed : (ns : Names) (n : ℕ) (star : Bool) (x : Place) (ts : List Token) → Closed Any (Behind ns x) n ts (read.assigned ns n star x ts)
+pub assigned_closed : (ns : Names) (n : ℕ) (star : Bool) (x : Place) (ts : List Token) → Closed Any (Behind ns x) n ts (read.assigned ns n star x ts)
 unfolding read.assigned
 assigned_closed ns n star x ts = closed_if (sees m.Equal ts)
     (λ h. closed_next (good_expect m.Equal) n ts (calm_expect m.Equal ts) (λ p us. closed_last n us [] (λ more vs a rest w us c ss i. (simply.Assign x p a, assign_place ns more x us p vs a rest c w ss i)) (expr_closed ns n us) (λ a vs. Calm.got)))
@@ -254,3 +254,104 @@ local_closed ns n ts = closed_then (good_type ns) n ts (word letter spot ∷ clo
     (λ more ss t rest i. (tree.local t (tree.local_declr letter_declr begins.Nothing ∷ []), Local'.local i (LocalDeclrs.last_local (LocalDeclr'.plain (Declr'.declr Bounds.no_bound))))) (specifiers_closed ns n ts) (λ t us.
     closed_last n us [] (λ more vs ds rest j ss i. (tree.local t ds, Local'.local i j))
     (list_closed (LocalDeclr' ns) (LocalDeclrs ns) m.Semicolon (λ n. read.local_declr ns n) (good_local_declr ns) (λ more ts x p us i. LocalDeclrs.last_local i) (λ more ts x p us xs vs i go. LocalDeclrs.next_local i go) n (local_declr_closed ns n) us) (λ ds vs. Calm.got))
+
+-- ---- directives
+one_less : (k : ℕ) → suc k - 1 ≡ k
+one_less k = omega arith
+
+pub bare_closed : (ns : Names) (n : ℕ) (kw : Keyword) (x : Directive) → ((more : ℕ) (p q r s t : Pos) (us : List Token) → Directive' ns (suc (suc more)) (key kw p ∷ mark m.OpenParen q ∷ mark m.OpenParen r ∷ mark m.CloseParen s ∷ mark m.CloseParen t ∷ us) x us)
+    → (ts : List Token) → Keyed kw ts → Closed Any (Some' (Directive' ns)) n ts (read.bare n x ts)
+unfolding read.bare read.double_bracket
+bare_closed ns n kw x make _ (Keyed.keyed {p} {us}) = stepped (key kw p) (opens_from 2 (λ n q. opens (n - 1) m.OpenParen >>= (λ r. expect m.CloseParen >>= (λ _. expect m.CloseParen >>= (λ _. pure x)))) n m.OpenParen us (close m.OpenParen ∷ close m.CloseParen ∷ close m.CloseParen ∷ []) (λ q. tt)
+    (λ q rest. (x, make 0 p q spot spot spot rest))
+    (λ i h q vs. subst (λ k. Closed Any (λ more vs rest. Some' (Directive' ns) (suc more) (key kw p ∷ mark m.OpenParen q ∷ vs) rest) i vs (and_then (opens k m.OpenParen vs) (λ r. expect m.CloseParen >>= (λ _. expect m.CloseParen >>= (λ _. pure x))))) (sym (one_less i))
+        (closed_opens (λ i r. expect m.CloseParen >>= (λ _. expect m.CloseParen >>= (λ _. pure x))) i m.OpenParen vs (close m.CloseParen ∷ close m.CloseParen ∷ []) (λ r. tt)
+        (λ more r rest. (x, make more p q r spot spot rest)) (λ j g r ws. closed_calm (calm_then (calm_expect m.CloseParen ws) (λ a xs. calm_ends m.CloseParen x xs))))))
+
+double_closed : (ns : Names) (n : ℕ) (kw : Keyword) (f : Expr → Directive) → ((more : ℕ) (p q r s t : Pos) (ts us : List Token) (a : Expr) → Whole ns more ts a (mark m.CloseParen s ∷ mark m.CloseParen t ∷ us) → Directive' ns (suc (suc more)) (key kw p ∷ mark m.OpenParen q ∷ mark m.OpenParen r ∷ ts) (f a) us)
+    → (p : Pos) (us : List Token) → Closed Any (λ more us rest. (a : Expr) × Directive' ns more (key kw p ∷ us) (f a) rest) n us (read.double_bracket n (within (within (λ n. read.expr ns n)) n) us)
+unfolding read.double_bracket
+double_closed ns n kw f make p us = opens_from 2 (λ n q. opens (n - 1) m.OpenParen >>= (λ r. within (within (λ n. read.expr ns n)) n >>= (λ a. expect m.CloseParen >>= (λ _. expect m.CloseParen >>= (λ _. pure a))))) n m.OpenParen us (close m.OpenParen ∷ nought ∷ close m.CloseParen ∷ close m.CloseParen ∷ []) (λ q. tt)
+    (λ q rest. (zero_expr, make 0 p q spot spot spot _ rest zero_expr (zero-whole ns 0 (close m.CloseParen ∷ close m.CloseParen ∷ rest))))
+    (λ i h q vs. subst (λ k. Closed Any (λ more vs rest. (a : Expr) × Directive' ns (suc more) (key kw p ∷ mark m.OpenParen q ∷ vs) (f a) rest) i vs (and_then (opens k m.OpenParen vs) (λ r. within (λ n. read.expr ns n) i >>= (λ a. expect m.CloseParen >>= (λ _. expect m.CloseParen >>= (λ _. pure a)))))) (sym (one_less i))
+        (closed_opens (λ i r. within (λ n. read.expr ns n) i >>= (λ a. expect m.CloseParen >>= (λ _. expect m.CloseParen >>= (λ _. pure a)))) i m.OpenParen vs (nought ∷ close m.CloseParen ∷ close m.CloseParen ∷ []) (λ r. tt)
+        (λ more r rest. (zero_expr, make more p q r spot spot _ rest zero_expr (zero-whole ns more (close m.CloseParen ∷ close m.CloseParen ∷ rest))))
+        (λ j g r ws. closed_last j ws (close m.CloseParen ∷ close m.CloseParen ∷ []) (λ more xs a rest w. (a, make more p q r spot spot xs rest a w)) (expr_closed ns j ws) (λ a xs. calm_then (calm_expect m.CloseParen xs) (λ _ ys. calm_ends m.CloseParen a ys)))))
+
+pub with_expr_closed : (ns : Names) (n : ℕ) (kw : Keyword) (f : Expr → Directive) → ((more : ℕ) (p q r s t : Pos) (ts us : List Token) (a : Expr) → Whole ns more ts a (mark m.CloseParen s ∷ mark m.CloseParen t ∷ us) → Directive' ns (suc (suc more)) (key kw p ∷ mark m.OpenParen q ∷ mark m.OpenParen r ∷ ts) (f a) us)
+    → (ts : List Token) → Keyed kw ts → Closed Any (Some' (Directive' ns)) n ts (read.with_expr ns n f ts)
+unfolding read.with_expr
+with_expr_closed ns n kw f make _ (Keyed.keyed {p} {us}) = closed_tail n (key kw p ∷ us) [] (λ more ss rest x. (f (x.0), x.1)) (stepped {R = λ more ss rest. (a : Expr) × Directive' ns more ss (f a) rest} (key kw p) (double_closed ns n kw f make p us)) (λ a us. Calm.got)
+
+pub ended_closed : (ns : Names) (n : ℕ) (p : Parser Directive) (ts : List Token) → Closed Any (Some' (Directive' ns)) n ts (p ts) → Closed Any (Some' (Stmt' ns)) n ts (read.ended p ts)
+unfolding read.ended
+ended_closed ns n p ts one = closed_last n ts (close m.Semicolon ∷ []) (λ more ss a rest i. (s.Directive (tree.pos_of ss) a, Stmt'.directive i)) one (λ a us. calm_ends m.Semicolon (s.Directive (tree.pos_of ts) a) us)
+
+-- ---- parts of statements
+pub condition_closed : (ns : Names) (n : ℕ) (ts : List Token) → Closed Any (Some' (InBrackets ns)) n ts (read.condition ns n ts)
+unfolding read.condition
+condition_closed ns n ts = closed_opens (λ n p. within (read.expr ns) n >>= (λ a. expect m.CloseParen >>= (λ _. pure a))) n m.OpenParen ts (nought ∷ close m.CloseParen ∷ []) (λ p. tt)
+    (λ more p rest. (zero_expr, InBrackets.in_brackets (zero-whole ns more (close m.CloseParen ∷ rest))))
+    (λ i h p us. closed_last i us (close m.CloseParen ∷ []) (λ more vs a rest w. (a, InBrackets.in_brackets w)) (expr_closed ns i us) (λ a vs. calm_ends m.CloseParen a vs))
+
+pub good_condition : (ns : Names) → Good (λ n. read.condition ns n) (InBrackets ns)
+good_condition ns = record { fine = λ n. loosen (fine.condition_fine ns n); less = room.condition_room ns; sound = sound.condition_sound ns }
+
+declares_first : (ns : Names) (more : ℕ) (ss : List Token) (t : Specifiers) (us : List Token) (x : Declr) (vs : List Token) (p : Pos) (ws : List Token) (a : Expr) (rest : List Token) → Specifiers' ns more ss t us → Declr' ns more us x vs → Marked m.Equal vs p ws → Whole ns more ws a rest
+    → First' ns more ss (first.Declares t x p a) rest
+declares_first ns more ss t us x _ p ws a rest i j Marked.marked w = First'.declares i j w
+
+pub first_of_closed : (ns : Names) (n : ℕ) (ts : List Token) → Closed Any (Some' (First' ns)) n ts (read.first_of ns n ts)
+unfolding read.first_of read.declares
+first_of_closed ns n ts = closed_if (sees m.Semicolon ts) (λ h. Closed.got) (λ h. closed_if (begins_type ns ts)
+    (λ g. closed_then (good_type ns) n ts (word letter spot ∷ close m.Equal ∷ nought ∷ []) (λ more ss t rest i. (first.Declares t letter_declr spot zero_expr, First'.declares i (Declr'.declr Bounds.no_bound) (zero-whole ns more rest))) (specifiers_closed ns n ts) (λ t us.
+        closed_then (good_declr ns) n us (close m.Equal ∷ nought ∷ []) (λ more vs x rest j ss i. (first.Declares t x spot zero_expr, First'.declares i j (zero-whole ns more rest))) (declr_closed ns n us) (λ x vs.
+        closed_next (good_expect m.Equal) n vs (calm_expect m.Equal vs) (λ p ws.
+        closed_last n ws [] (λ more xs a rest w vs c us j ss i. (first.Declares t x p a, declares_first ns more ss t us x vs p xs a rest i j c w)) (expr_closed ns n ws) (λ a xs. Calm.got)))))
+    (λ g. closed_last n ts [] (λ more ss a rest i. (first.Simple a, First'.simply i)) (simple_closed ns n ts) (λ a us. Calm.got)))
+
+pub expr_before_closed : (ns : Names) (mk : Punct) (n : ℕ) (ts : List Token) → Closed Any (Some' (Condition' ns)) n ts (read.expr_before ns mk n ts)
+unfolding read.expr_before
+expr_before_closed ns mk n ts = closed_if (sees mk ts) (λ h. Closed.got) (λ h. closed_last n ts [] (λ more ss a rest w. (Some a, Condition'.while w)) (expr_closed ns n ts) (λ a us. Calm.got))
+
+pub simple_before_closed : (ns : Names) (mk : Punct) (n : ℕ) (ts : List Token) → Closed Any (Some' (Next' ns)) n ts (read.simple_before ns mk n ts)
+unfolding read.simple_before
+simple_before_closed ns mk n ts = closed_if (sees mk ts) (λ h. Closed.got) (λ h. closed_last n ts [] (λ more ss a rest i. (Some a, Next'.simply i)) (simple_closed ns n ts) (λ a us. Calm.got))
+
+pub good_first : (ns : Names) → Good (λ n. read.first_of ns n) (First' ns)
+good_first ns = record { fine = fine.first_of_fine ns; less = room.first_of_room ns; sound = sound.first_of_sound ns }
+
+pub good_expr_before : (ns : Names) (mk : Punct) → Good (λ n. read.expr_before ns mk n) (Condition' ns)
+good_expr_before ns mk = record { fine = fine.expr_before_fine ns mk; less = room.expr_before_room ns mk; sound = λ n. sound.expr_before_sound ns n mk }
+
+pub good_simple_before : (ns : Names) (mk : Punct) → Good (λ n. read.simple_before ns mk n) (Next' ns)
+good_simple_before ns mk = record { fine = fine.simple_before_fine ns mk; less = room.simple_before_room ns mk; sound = λ n. sound.simple_before_sound ns n mk }
+
+case_closed : (ns : Names) (n : ℕ) (ts : List Token) → Keyed k.Case ts → Closed Any (Some' (Label' ns)) n ts (read.case ns n ts)
+unfolding read.case
+case_closed ns n _ (Keyed.keyed {p} {us}) = stepped (key k.Case p) (closed_last n us (close m.Colon ∷ []) (λ more vs a rest w. (label.Case p a, Label'.case w)) (expr_closed ns n us) (λ a vs. calm_ends m.Colon (label.Case p a) vs))
+
+calm_default : (ts : List Token) → Calm (read.default ts)
+unfolding read.default
+calm_default ts = calm_then (calm_takes ts) (λ p us. calm_ends m.Colon (label.Default p) us)
+
+label_by_closed : (ns : Names) (n : ℕ) (o : Option Keyword) (ts : List Token) → key_at ts ≡ o → Closed Any (Some' (Label' ns)) n ts (read.label_by ns n o ts)
+label_by_closed ns n (Some k.Case) ts h = case_closed ns n ts (key_at_is ts k.Case h)
+label_by_closed ns n (Some k.Default) ts h = closed_calm (calm_default ts)
+label_by_closed ns n o ts h = Closed.stuck
+
+pub a_label_closed : (ns : Names) (n : ℕ) (ts : List Token) → Closed Any (Some' (Label' ns)) n ts (read.a_label ns n ts)
+unfolding read.a_label
+a_label_closed ns n ts = label_by_closed ns n (key_at ts) ts refl
+
+pub good_label : (ns : Names) → Good (λ n. read.a_label ns n) (Label' ns)
+good_label ns = record { fine = λ n. loosen (fine.a_label_fine ns n); less = room.a_label_room ns; sound = sound.a_label_sound ns }
+
+-- more labels, where no other follows
+abbrev pub MoreLabels : Names → ℕ → List Token → List Label → List Token → Type 0
+MoreLabels ns more ts ls us = begins_with_label us ≡ false → (ss : List Token) (l : Label) → Label' ns more ss l ts → Labels ns more ss (l ∷ ls) us
+
+pub more_labels_closed : (ns : Names) (n : ℕ) (ts : List Token) → Closed Any (Some' (MoreLabels ns)) n ts (many begins_with_label (read.a_label ns n) ts)
+more_labels_closed ns n ts = closed_many (MoreLabels ns) (λ more us h ss l i. Labels.last_label i h) begins_with_label fine.label_ahead (λ n. read.a_label ns n) (fine.a_label_fine ns) (room.a_label_room ns)
+    (λ n ts h. map_yields (λ x us i ls vs go g ss l j. Labels.next_label j (go g ts x i)) (sound.a_label_sound ns n ts)) n
+    (λ ts h. closed_map (λ more us vs x. (x.0, λ ls ws go g ss l j. Labels.next_label j (go g us (x.0) (x.1)))) (a_label_closed ns n ts)) ts

@@ -336,10 +336,10 @@ pub record IsFine (n : ℕ) (bodies : Bodies) : Type 0 where
   pub items : (i : ℕ) → n ≡ suc i → Fine 0 bodies.items
   pub groups : (i : ℕ) → n ≡ suc i → Fine 0 bodies.groups
 
-else_ahead : Ahead begins_with_else
+pub else_ahead : Ahead begins_with_else
 else_ahead t r s = refl
 
-label_ahead : Ahead begins_with_label
+pub label_ahead : Ahead begins_with_label
 label_ahead t r s = refl
 
 module _ (ns : Names) (n : ℕ) (bodies : Bodies) (deeper : IsFine n bodies) where
@@ -513,7 +513,7 @@ module _ (ns : Names) (n : ℕ) (bodies : Bodies) (deeper : IsFine n bodies) whe
   unfolding read.block_item
   block_item_fine one each = fine_if (begins_type ns) (type_ahead ns) (fine_first (local_fine ns n) (λ l. fine_pure (item.Local l))) (fine_first each (λ a. fine_pure (item.Stmt a)))
 
-  close_ahead : Ahead (read.no_close)
+  pub close_ahead : Ahead (read.no_close)
   unfolding sees
   close_ahead t r s = refl
 
@@ -521,7 +521,7 @@ module _ (ns : Names) (n : ℕ) (bodies : Bodies) (deeper : IsFine n bodies) whe
   unfolding read.block_items
   block_items_fine one each = fine_many read.no_close close_ahead (block_item_fine one each)
 
-  goes_on_ahead : Ahead (read.goes_on ns n bodies)
+  pub goes_on_ahead : Ahead (read.goes_on ns n bodies)
   unfolding sees
   goes_on_ahead t r s = refl
 
