@@ -23,4 +23,5 @@ pub mod DeepUnit
 pub mod ClosingLemmas
 pub mod ClosingExpr
 pub mod ClosingStmt
+pub mod ClosingBodies
 pub mod Samples
