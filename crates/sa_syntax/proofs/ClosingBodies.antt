@@ -58,20 +58,20 @@ use Rattle.sa_syntax.proofs.ReadingLemmas.{Yields, map_yields, if_yields, Marked
 use Rattle.sa_syntax.proofs.ExprSound.{Within}
 use Rattle.sa_syntax.proofs.StmtSound as sound
 use Rattle.sa_syntax.proofs.StmtSound.{InBrackets}
-use Rattle.sa_syntax.proofs.RoomLemmas.{Less}
+use Rattle.sa_syntax.proofs.RoomLemmas.{Less, less_many}
 use Rattle.sa_syntax.proofs.StmtRoom as room
-use Rattle.sa_syntax.proofs.DeepLemmas.{loosen, sees_ahead, Ahead}
+use Rattle.sa_syntax.proofs.DeepLemmas.{loosen, sees_ahead, Ahead, fine_many}
 use Rattle.sa_syntax.proofs.DeepStmt as fine
 use Rattle.sa_syntax.proofs.ExprSound as expr_sound
 use Rattle.sa_syntax.proofs.ExprRoom as expr_room
 use Rattle.sa_syntax.proofs.DeepExpr as expr_fine
-use Rattle.sa_syntax.proofs.ClosingLemmas.{Closed, Calm, Good, Any, Some', Front, calm_then, calm_if, calm_takes, calm_ends, closed_calm, closed_map, closed_if, closed_any, closed_reader, deeper_room, closed_then, closed_next, closed_last, closed_tail, closed_opens, opens_from, closed_many, list_closed, calm_expect, calm_any_name, calm_variable, calm_many, good_leaf, good_expect, good_any_name, good_variable, good_opens, opens_closed, stepped}
+use Rattle.sa_syntax.proofs.ClosingLemmas.{Closed, Calm, Good, Any, Some', Front, calm_then, calm_if, calm_takes, calm_ends, closed_calm, closed_map, closed_if, closed_any, closed_reader, deeper_room, closed_then, closed_next, closed_last, closed_tail, closed_opens, opens_from, closed_many, closed_through, direct_many, list_closed, calm_expect, calm_any_name, calm_variable, calm_many, good_leaf, good_expect, good_any_name, good_variable, good_opens, opens_closed, stepped}
 use Rattle.sa_syntax.proofs.ClosingExpr as closing
 use Rattle.sa_syntax.proofs.ClosingExpr.{spot, close, nought, fresh, fresh-is, zero-whole, letter, letter_declr, int, int_type, int-type, good_whole, good_type, good_declr, all_closed}
 
 use Rattle.sa_syntax.proofs.UnitSound as unit_sound
 use Rattle.sa_syntax.proofs.UnitSound.{bodies_sound}
-use Rattle.sa_syntax.proofs.StmtRoom.{bodies_room}
+use Rattle.sa_syntax.proofs.StmtRoom.{bodies_room, stmt_less}
 use Rattle.sa_syntax.proofs.DeepUnit.{bodies_fine}
 use Rattle.sa_syntax.proofs.ClosingStmt.{zero_expr, expr_closed, place_closed, good_place, call_closed, good_call, Behind, assigned_closed, simple_closed, local_closed, good_local, bare_closed, with_expr_closed, ended_closed, condition_closed, good_condition, first_of_closed, expr_before_closed, simple_before_closed, good_first, good_expr_before, good_simple_before, a_label_closed, good_label, MoreLabels, more_labels_closed}
 
@@ -142,11 +142,15 @@ inner_stmt ns n = (read.bodies ns n).stmt
 good_inner : (ns : Names) → Good (inner_stmt ns) (Within (Stmt' ns))
 good_inner ns = record { fine = λ n. loosen (bodies_fine ns n).stmt; less = λ n more h. (bodies_room ns n more h).stmt; sound = λ n. (bodies_sound ns n).stmt }
 
+-- groups, where no label follows
+abbrev pub EndedGroups : Names → ℕ → List Token → List Group → List Token → Type 0
+EndedGroups ns more ts gs us = begins_with_label us ≡ false → Groups ns more ts gs us
+
 pub record Inner (ns : Names) (n : ℕ) : Type 0 where
   pub stmt : (ts : List Token) → Closed Any (Some' (Within (Stmt' ns))) n ts (inner_stmt ns n ts)
   pub one : (i : ℕ) → n ≡ suc i → (ts : List Token) → Closed Any (Some' (Stmt' ns)) i ts (read.stmt_at ns i ts)
   pub items : (i : ℕ) → n ≡ suc i → (ts : List Token) → Closed Any (Some' (Nested ns)) i ts ((read.bodies ns (suc i)).items ts)
-  pub groups : (i : ℕ) → n ≡ suc i → (ts : List Token) → Closed Any (Some' (Groups ns)) i ts ((read.bodies ns (suc i)).groups ts)
+  pub groups : (i : ℕ) → n ≡ suc i → (ts : List Token) → Closed Any (Some' (EndedGroups ns)) i ts ((read.bodies ns (suc i)).groups ts)
 
 -- ---- what the parts make
 if_none : (ns : Names) (more : ℕ) (p : Pos) (us : List Token) (c : Expr) (rest : List Token) → InBrackets ns more us c (semicolon ∷ key k.Else spot ∷ semicolon ∷ rest) → Some' (Stmt' ns) more (key k.If p ∷ us) rest
@@ -272,7 +276,7 @@ module _ (ns : Names) (n : ℕ) (inner : Inner ns n) where
       (closed_then (good_condition ns) n us (close m.OpenBrace ∷ close m.CloseBrace ∷ []) (λ more vs c rest w. switch_none ns more p vs c rest w) (condition_closed ns n us) (λ c vs.
       closed_opens (λ n q. (read.bodies ns n).groups >>= (λ gs. expect m.CloseBrace >>= (λ _. pure (s.Switch p c gs)))) n m.OpenBrace vs (close m.CloseBrace ∷ []) (λ q. tt)
       (λ more q rest us w. switch_some ns more p us c q _ [] rest w Groups.no_group)
-      (λ i h q ws. closed_last i ws (close m.CloseBrace ∷ []) (λ more xs gs rest g us w. switch_some ns more p us c q xs gs rest w g) (inner.groups i h ws) (λ gs xs. calm_ends m.CloseBrace (s.Switch p c gs) xs))))
+      (λ i h q ws. closed_last i ws (close m.CloseBrace ∷ []) (λ more xs gs rest g us w. switch_some ns more p us c q xs gs rest w (g refl)) (inner.groups i h ws) (λ gs xs. calm_ends m.CloseBrace (s.Switch p c gs) xs))))
 
   calm_break : (ts : List Token) → Calm (read.break ns n (read.bodies ns n) ts)
   unfolding read.break
@@ -301,3 +305,104 @@ module _ (ns : Names) (n : ℕ) (inner : Inner ns n) where
       closed_then (good_simple_before ns m.CloseParen) i zs (close m.CloseParen ∷ semicolon ∷ []) (λ more a2 e rest z b2 k2 a1 y b1 k1 a0 x. for_two ns more p o a0 f b1 q a1 c b2 r a2 e rest x k1 y k2 z) (simple_before_closed ns m.CloseParen i zs) (λ e us'.
       closed_next (good_expect m.CloseParen) i us' (calm_expect m.CloseParen us') (λ t vs'.
       closed_last i vs' [] (λ more a3 a rest w b3 k3 a2 z b2 k2 a1 y b1 k1 a0 x. for_three ns more p o a0 f b1 q a1 c b2 r a2 e b3 t a3 a rest x k1 y k2 z k3 w) (inner.one i h vs') (λ a ws'. Calm.got)))))))))
+
+  mark_stmt_closed : (o : Option Punct) (ts : List Token) → Closed Any (Some' (Stmt' ns)) n ts (read.mark_stmt ns n (read.bodies ns n) o ts)
+  mark_stmt_closed (Some m.OpenBrace) ts = block_closed ts
+  mark_stmt_closed (Some m.Semicolon) ts = closed_calm (calm_empty ts)
+  mark_stmt_closed (Some m.PlusPlus) ts = simple_ended_closed ts
+  mark_stmt_closed (Some m.MinusMinus) ts = simple_ended_closed ts
+  mark_stmt_closed o ts = placed_closed ts
+
+  stmt_by_closed : (o : Option Keyword) (ts : List Token) → key_at ts ≡ o → Closed Any (Some' (Stmt' ns)) n ts (read.stmt_by ns n (read.bodies ns n) o ts)
+  stmt_by_closed None ts h = mark_stmt_closed (mark_at ts) ts
+  stmt_by_closed (Some k.If) ts h = if_closed ts (key_at_is ts k.If h)
+  stmt_by_closed (Some k.While) ts h = while_closed ts (key_at_is ts k.While h)
+  stmt_by_closed (Some k.Do) ts h = do_closed ts (key_at_is ts k.Do h)
+  stmt_by_closed (Some k.For) ts h = for_closed ts (key_at_is ts k.For h)
+  stmt_by_closed (Some k.Switch) ts h = switch_closed ts (key_at_is ts k.Switch h)
+  stmt_by_closed (Some k.Break) ts h = closed_calm (calm_break ts)
+  stmt_by_closed (Some k.Return) ts h = return_closed ts (key_at_is ts k.Return h)
+  stmt_by_closed (Some k.WaitForClock) ts h = ended_closed ns n (read.bare n d.Wait) ts (bare_closed ns n k.WaitForClock d.Wait (λ more p q r s t us. Directive'.wait) ts (key_at_is ts k.WaitForClock h))
+  stmt_by_closed (Some k.Partition) ts h = ended_closed ns n (read.bare n d.Partition) ts (bare_closed ns n k.Partition d.Partition (λ more p q r s t us. Directive'.partition) ts (key_at_is ts k.Partition h))
+  stmt_by_closed (Some k.KnownFact) ts h = ended_closed ns n (read.with_expr ns n d.KnownFact) ts (with_expr_closed ns n k.KnownFact d.KnownFact (λ more p q r s t ts us a w. Directive'.known_fact w) ts (key_at_is ts k.KnownFact h))
+  stmt_by_closed (Some k.Assert) ts h = ended_closed ns n (read.with_expr ns n d.Assert) ts (with_expr_closed ns n k.Assert d.Assert (λ more p q r s t ts us a w. Directive'.assert w) ts (key_at_is ts k.Assert h))
+  stmt_by_closed (Some j) ts h = Closed.stuck
+
+  pub stmt_closed : (ts : List Token) → Closed Any (Some' (Stmt' ns)) n ts (read.stmt_at ns n ts)
+  unfolding read.stmt
+  stmt_closed ts = stmt_by_closed (key_at ts) ts refl
+
+-- ---- what stands in braces
+nested_front : (ns : Names) (more : ℕ) (ss : List Token) (a : Stmt) (rest : List Token) → Within (Stmt' ns) more ss a rest → Front (Nested ns) more ss (item.Stmt a) rest
+nested_front ns zero ss a rest i is vs go = absurd i
+nested_front ns (suc more) ss a rest i is vs go = Nested.nested_stmt i go
+
+body_front : (ns : Names) (more : ℕ) (ss : List Token) (a : Stmt) (rest : List Token) → Within (Stmt' ns) more ss a rest → Front (Body ns) more ss a rest
+body_front ns zero ss a rest i is vs go = absurd i
+body_front ns (suc more) ss a rest i is vs go = Body.stmt i go
+
+module _ (ns : Names) (n : ℕ) (inner : Inner ns n) where
+  nested_item_closed : (ts : List Token) → Closed Any (Some' (Front (Nested ns))) n ts (read.block_item ns n (read.bodies ns n) (inner_stmt ns n) ts)
+  unfolding read.block_item
+  nested_item_closed ts = closed_if (begins_type ns ts)
+      (λ h. closed_last n ts [] (λ more ss l rest i. (item.Local l, λ is vs go. Nested.nested_local i go)) (local_closed ns n ts) (λ l us. Calm.got))
+      (λ h. closed_last n ts [] (λ more ss a rest i. (item.Stmt a, nested_front ns more ss a rest i)) (inner.stmt ts) (λ a us. Calm.got))
+
+  nested_closed : (ts : List Token) → Closed Any (Some' (Nested ns)) n ts (read.block_items ns n (read.bodies ns n) (inner_stmt ns n) ts)
+  unfolding read.block_items
+  nested_closed ts = closed_many (Nested ns) (λ more us. Nested.no_item) read.no_close (fine.close_ahead ns n (read.bodies ns n) (bodies_fine ns n)) (λ n. read.block_item ns n (read.bodies ns n) (inner_stmt ns n))
+      (λ n. fine.block_item_fine ns n (read.bodies ns n) (bodies_fine ns n) (inner_stmt ns n) (bodies_fine ns n).stmt)
+      (λ n more h. room.block_item_room ns n more (read.bodies ns n) (read.bodies ns more) h (bodies_room ns n more h) (inner_stmt ns n) (inner_stmt ns more) (bodies_room ns n more h).stmt)
+      (λ n ts h. unit_sound.nested_item_sound ns n (read.bodies ns n) (bodies_sound ns n) (inner_stmt ns n) (bodies_sound ns n).stmt ts) n (λ ts h. nested_item_closed ts) ts
+
+  stmts_closed : (ts : List Token) → Closed Any (Some' (Body ns)) n ts (many (read.goes_on ns n (read.bodies ns n)) (inner_stmt ns n) ts)
+  stmts_closed ts = closed_many (Body ns) (λ more us. Body.no_stmt) (read.goes_on ns n (read.bodies ns n)) (fine.goes_on_ahead ns n (read.bodies ns n) (bodies_fine ns n)) (inner_stmt ns)
+      (λ n. (bodies_fine ns n).stmt) (λ n more h. (bodies_room ns n more h).stmt) (λ n ts h. map_yields (λ a us i. body_front ns n ts a us i) ((bodies_sound ns n).stmt ts)) n
+      (λ ts h. closed_map (λ more us vs x. (x.0, body_front ns more us (x.0) vs (x.1))) (inner.stmt ts)) ts
+
+  good_more_labels : Good (λ n. many begins_with_label (read.a_label ns n)) (λ more ts ls us. sound.MoreLabels ns more ts ls us)
+  good_more_labels = record { fine = λ n. fine_many begins_with_label fine.label_ahead (fine.a_label_fine ns n); less = λ n more h. less_many begins_with_label (read.a_label ns n) (read.a_label ns more) (room.a_label_room ns n more h); sound = sound.more_labels_sound ns }
+
+  a_group_closed : (ts : List Token) → Closed Any (Some' (EndedGroups ns)) n ts (read.a_group ns n (read.bodies ns n) ts)
+  unfolding read.a_group
+  a_group_closed ts =
+      closed_then (good_label ns) n ts [] (λ more ss l rest i. (tree.group (l ∷ []) [] ∷ [], λ h. Groups.group (Labels.last_label i h) Body.no_stmt Groups.no_group)) (a_label_closed ns n ts) (λ l us.
+      closed_through good_more_labels n us (closed_map (λ more vs rest x ss i. (tree.group (l ∷ (x.0)) [] ∷ [], λ h. Groups.group (x.1 h ss l i) Body.no_stmt Groups.no_group)) (more_labels_closed ns n us)) (λ ls vs.
+      closed_last n vs [] (λ more ws ss rest b us k xs i. (tree.group (l ∷ ls) ss ∷ [], λ h. Groups.group (k xs l i) b Groups.no_group)) (stmts_closed vs) (λ ss ws. Calm.got)))
+
+  groups_closed : (ts : List Token) → Closed Any (Some' (EndedGroups ns)) n ts (read.groups ns n (read.bodies ns n) ts)
+  unfolding read.groups
+  groups_closed ts = direct_many (EndedGroups ns) begins_with_label fine.label_ahead (λ n. read.a_group ns n (read.bodies ns n))
+      (λ n. fine.a_group_fine ns n (read.bodies ns n) (bodies_fine ns n)) (λ n more h. room.a_group_room ns n more (read.bodies ns n) (read.bodies ns more) h (bodies_room ns n more h))
+      (λ n ts h. map_yields (λ g us go gs vs gg j. go gs vs (gg j)) (unit_sound.a_group_sound ns n (read.bodies ns n) (bodies_sound ns n) ts)) n (λ ts h. a_group_closed ts) ts
+
+at_room : (ns : Names) (n : ℕ) → Inner ns n → Inner ns (suc n)
+unfolding read.bodies
+at_room ns n below = record {
+  stmt = λ ts. deeper_room n ts (stmt_closed ns n below ts);
+  one = λ i h ts. let same : n ≡ i = omega (arith, h) in subst (λ i. Closed Any (Some' (Stmt' ns)) i ts (read.stmt_at ns i ts)) same (stmt_closed ns n below ts);
+  items = λ i h ts. let same : n ≡ i = omega (arith, h) in subst (λ i. Closed Any (Some' (Nested ns)) i ts ((read.bodies ns (suc i)).items ts)) same (nested_closed ns n below ts);
+  groups = λ i h ts. let same : n ≡ i = omega (arith, h) in subst (λ i. Closed Any (Some' (EndedGroups ns)) i ts ((read.bodies ns (suc i)).groups ts)) same (groups_closed ns n below ts);
+}
+
+pub all_inner : (ns : Names) (n : ℕ) → Inner ns n
+unfolding read.bodies
+all_inner ns zero = record { stmt = no_stmt_closed ns; one = λ i h. cc; items = λ i h. cc; groups = λ i h. cc }
+all_inner ns (suc n) = at_room ns n (all_inner ns n)
+
+good_stmt : (ns : Names) → Good (λ n. read.stmt_at ns n) (Stmt' ns)
+good_stmt ns = record { fine = λ n. loosen (fine.stmt_fine ns n (read.bodies ns n) (bodies_fine ns n)); less = stmt_less ns; sound = unit_sound.stmt_yields ns }
+
+-- in the braces of a function
+outer_item_closed : (ns : Names) (n : ℕ) (ts : List Token) → Closed Any (Some' (Front (Outermost ns))) n ts (read.block_item ns n (read.bodies ns n) (read.stmt_at ns n) ts)
+unfolding read.block_item
+outer_item_closed ns n ts = closed_if (begins_type ns ts)
+    (λ h. closed_last n ts [] (λ more ss l rest i. (item.Local l, λ is vs go. Outermost.local_item i go)) (local_closed ns n ts) (λ l us. Calm.got))
+    (λ h. closed_last n ts [] (λ more ss a rest i. (item.Stmt a, λ is vs go. Outermost.stmt_item i go)) (stmt_closed ns n (all_inner ns n) ts) (λ a us. Calm.got))
+
+pub outermost_closed : (ns : Names) (n : ℕ) (ts : List Token) → Closed Any (Some' (Outermost ns)) n ts (read.outermost ns n ts)
+unfolding read.outermost read.block_items
+outermost_closed ns n ts = closed_many (Outermost ns) (λ more us. Outermost.no_item) read.no_close (fine.close_ahead ns n (read.bodies ns n) (bodies_fine ns n)) (λ n. read.block_item ns n (read.bodies ns n) (read.stmt_at ns n))
+    (λ n. fine.block_item_fine ns n (read.bodies ns n) (bodies_fine ns n) (read.stmt_at ns n) (fine.stmt_fine ns n (read.bodies ns n) (bodies_fine ns n)))
+    (λ n more h. room.block_item_room ns n more (read.bodies ns n) (read.bodies ns more) h (bodies_room ns n more h) (read.stmt_at ns n) (read.stmt_at ns more) (stmt_less ns n more h))
+    (λ n ts h. unit_sound.outer_item_sound ns n (read.bodies ns n) (bodies_sound ns n) (read.stmt_at ns n) (unit_sound.stmt_yields ns n) ts) n (λ ts h. outer_item_closed ns n ts) ts

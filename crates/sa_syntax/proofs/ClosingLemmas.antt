@@ -325,3 +325,34 @@ pub closed_tail : {A B : Type 0} {O : Token → Type 0} {Q R : ℕ → List Toke
 closed_tail n ts d go (Closed.got {a} {us}) calm = closed_calm (calm a us)
 closed_tail n ts d go Closed.stuck calm = Closed.stuck
 closed_tail {R = R} n ts d go (Closed.deep {t} b tail more e h o w) calm = Closed.deep b (tail ++ d) more e h o (λ rest. subst (λ z. R more (b ++ t ∷ z) rest) (sym (append_assoc tail d rest)) (go more _ rest (w (d ++ rest))))
+
+-- the first of two is closed with what stands for the second
+pub relabel : {A B : Type 0} {O : Token → Type 0} {R : ℕ → List Token → List Token → Type 0} (n : ℕ) (ts : List Token) {t : Token} {r : List Token} → Closed {A = A} O R n ts (Deep (t ∷ r)) → Closed {A = B} O R n ts (Deep (t ∷ r))
+relabel n ts (Closed.deep b tail more e h o w) = Closed.deep b tail more e h o w
+
+through_read : {A B : Type 0} {O : Token → Type 0} {R : ℕ → List Token → List Token → Type 0} {p : ℕ → Parser A} {P : ℕ → List Token → A → List Token → Type 0} (f : A → Parser B) → Good p P → (n : ℕ) (ts : List Token)
+    → ((a : A) (us : List Token) → Closed O (λ more vs rest. (ss : List Token) → P more ss a vs → R more ss rest) n us (f a us)) → (x : Read A) → p n ts ≡ x → Closed O R n ts x → Closed O R n ts (and_then x f)
+through_read f good n ts each (Got a us) e c = behind_closed good n ts a us e (each a us)
+through_read f good n ts each (Stuck us) e c = Closed.stuck
+through_read f good n ts each (Deep (t ∷ r)) e c = relabel n ts c
+through_read f good n ts each (Deep []) e c = absurd (elim c [ ])
+
+pub closed_through : {A B : Type 0} {O : Token → Type 0} {R : ℕ → List Token → List Token → Type 0} {p : ℕ → Parser A} {P : ℕ → List Token → A → List Token → Type 0} {f : A → Parser B} → Good p P → (n : ℕ) (ts : List Token)
+    → Closed O R n ts (p n ts) → ((a : A) (us : List Token) → Closed O (λ more vs rest. (ss : List Token) → P more ss a vs → R more ss rest) n us (f a us)) → Closed O R n ts (and_then (p n ts) f)
+closed_through {p = p} {f = f} good n ts one each = through_read f good n ts each (p n ts) refl one
+
+direct_while : {A : Type 0} {O : Token → Type 0} (Star : ℕ → List Token → List A → List Token → Type 0) (goes : List Token → Bool) (item : ℕ → Parser A) → Good (guarded goes item) (Front Star) → (n : ℕ)
+    → ((ts : List Token) → goes ts ≡ true → Closed O (Some' Star) n ts (item n ts)) → (left : ℕ) (found : List A) (ts : List Token) → Closed O (Some' Star) n ts (while_from goes (item n) left found ts)
+unfolding while_from
+direct_while Star goes item good n each zero found ts = Closed.stuck
+direct_while {A} {O} Star goes item good n each (suc left) found ts = closed_if (goes ts) (λ h.
+    let same : guarded goes item n ts ≡ item n ts = ap (λ b. cond b (item n ts) (Stuck ts)) h in
+    subst (λ (x : Read A). Closed O (Some' Star) n ts (and_then x (λ x. while_from goes (item n) left (found ++ x ∷ [])))) same
+    (closed_through good n ts (subst (λ (x : Read A). Closed O (Some' Star) n ts x) (sym same) (each ts h))
+    (λ x us. closed_map (λ more vs ws c ss i. (x ∷ (c.0), i (c.0) ws (c.1))) (direct_while Star goes item good n each left (found ++ x ∷ []) us)))) (λ h. Closed.got)
+
+pub direct_many : {A : Type 0} {O : Token → Type 0} (Star : ℕ → List Token → List A → List Token → Type 0) → (goes : List Token → Bool) → Ahead goes → (item : ℕ → Parser A)
+    → ((n : ℕ) → Fine 1 (item n)) → ((n more : ℕ) → n ≤ more → (ts : List Token) → Less (item n ts) (item more ts)) → ((n : ℕ) (ts : List Token) → goes ts ≡ true → Yields (λ x us. Front Star n ts x us) (item n ts)) → (n : ℕ)
+    → ((ts : List Token) → goes ts ≡ true → Closed O (Some' Star) n ts (item n ts)) → (ts : List Token) → Closed O (Some' Star) n ts (many goes (item n) ts)
+direct_many Star goes same item fine less sound n each ts = direct_while Star goes item
+    (record { fine = λ n. fine_if goes same (loosen (fine n)) (fine_refuse 0); less = λ n more h ts. less_if (goes ts) (less n more h ts) Less.same; sound = λ n ts. if_yields (goes ts) (λ h. sound n ts h) (λ h. Yields.stuck) }) n each (turns ts) [] ts
