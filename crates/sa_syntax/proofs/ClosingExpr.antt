@@ -90,10 +90,12 @@ fresh-length ns = length-replicate (size ns) 97
 pub fresh-is : (ns : Names) → is_type_name ns (fresh ns) ≡ false
 fresh-is ns = let l = fresh-length ns in longer (fresh ns) ns (omega (arith, l))
 
--- no name and no star
+-- a name, a keyword, a star or a closing bracket
 abbrev pub plain : Word → Bool
 plain (Name w) = true
+plain (Key j) = true
 plain (Mark m.Star) = true
+plain (Mark m.CloseParen) = true
 plain _ = false
 
 abbrev pub Opener : Token → Type 0
@@ -338,7 +340,7 @@ module _ (ns : Names) (n : ℕ) (deeper : (i : ℕ) → n ≡ suc i → Deeper n
           (λ n. fine.field_fine ns n (inside ns n) (inside_fine ns n)) (good_field ns).less (λ n ts h. (good_field ns).sound n ts) n (λ ts h. field_closed ts) us) (λ fs vs. Calm.got))
 
 -- ---- expressions
--- the test of a place through a reference looks no further than the token, which is no name and no star
+-- the test of a place through a reference looks no further than the token, which is not plain
 through-word : (w : Word) (p : Pos) (r s : List Token) → plain w ≡ false → let t : Token = record { word = w; pos = p } in is_through (t ∷ r) ≡ is_through (t ∷ s)
 unfolding is_through
 through-word (Mark m.Star) p r s h = cc
@@ -368,6 +370,7 @@ through-same (x ∷ y ∷ z ∷ c) t r s h = refl
 
 prefix-plain : (mk : Punct) (op : Prefix) → prefix_of mk ≡ Some op → plain (Mark mk) ≡ false
 prefix-plain m.Star op h = cc
+prefix-plain m.CloseParen op h = cc
 prefix-plain mk op h = refl
 
 cast_unary : (ns : Names) (more : ℕ) (p : Pos) (us : List Token) (t : Specifiers) (vs : List Token) (q : Pos) (ws : List Token) (a : Expr) (rest : List Token) → Specifiers' ns more us t vs → Marked m.CloseParen vs q ws → Unary ns more ws a rest

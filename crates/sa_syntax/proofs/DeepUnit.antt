@@ -23,7 +23,6 @@ use Rattle.sa_syntax.specs.Trees as tree
 use Rattle.sa_syntax.specs.Words.{Names, mark, key, word, is_void_alone}
 use Rattle.sa_syntax.specs.Statements.{all_named, Tree}
 use Rattle.sa_syntax.specs.Reading.{Parser, Read, Got, Stuck, Deep, and_then, sees, after, expect, opens, any_name, name_at, key_at, mark_at, many, turns, pure, ◌>>=◌, ◌>>◌}
-use Rattle.sa_syntax.specs.Refusals.{GoesTooDeep}
 use Rattle.sa_syntax.specs.ReadExpr.{is_some, inside}
 use Rattle.sa_syntax.specs.ReadExpr as expr
 use Rattle.sa_syntax.specs.ReadStmt as read
@@ -98,7 +97,7 @@ module _ (ns : Names) (n : ℕ) where
       (fine_look is_void_alone (fine_after (fine_after (fine_pure given.Void))) (fine_then (fine_list m.CloseParen param_fine) (λ ps. fine_pure (given.List ps))) void_far
       (λ t r s. void_near t.word t.pos r s) (λ c t r s. inl (void_second c t r s)))
 
-params_fine_at : (ns : Names) (n : ℕ) → Fine 0 (read.params ns n)
+pub params_fine_at : (ns : Names) (n : ℕ) → Fine 0 (read.params ns n)
 params_fine_at ns n = params_fine ns n
 
 module _ (ns : Names) (n : ℕ) where
@@ -202,11 +201,6 @@ unfolding read.source
 source_fine n = fine_then (items_fine n) (λ is. fine_pure (tree.source is))
 
 -- ---- what a refusal for depth says
-pub deep_front : {A : Type 0} {k : ℕ} {ts us : List Token} (x : Read A) → Shrinks k ts x → x ≡ Deep us → (before : List Token) × (t : Token) × (behind : List Token) × (us ≡ t ∷ behind) × (ts ≡ before ++ t ∷ behind)
-deep_front (Got a vs) h e = cc
-deep_front (Stuck vs) h e = cc
-deep_front {us = us} (Deep vs) (Shrinks.deep {t = t} {us = ws} xs f) e = let g : us ≡ t ∷ ws = cc in (xs, t, ws, g, f)
-
 no_tree : {A : Type 0} {t : Token} {r s : List Token} {a : A} (x y : Read A) → Local t r s x y → x ≡ Deep (t ∷ r) → y ≡ Got a [] → ⊥
 no_tree _ _ (Local.got b) e f = cc
 no_tree _ _ (Local.deep b) e f = cc
@@ -220,9 +214,3 @@ none_within n before t behind tail u e h =
     let same : (before ++ t ∷ []) ++ tail ≡ before ++ t ∷ tail = append_assoc before (t ∷ []) tail in
     no_tree (read.source n (before ++ t ∷ behind)) (read.source n (before ++ t ∷ tail)) ((source_fine n).local before t behind tail) e
     (source-complete n (before ++ t ∷ tail) u (subst (λ z. Tree n z u) same h))
-
-pub told_depth : (n : ℕ) (ts us : List Token) → read.source n ts ≡ Deep us → (d : GoesTooDeep n ts) × (us ≡ d.token ∷ d.after)
-told_depth n ts us e =
-    let f = deep_front (read.source n ts) ((source_fine n).shrinks ts) e in
-    let at : read.source n (f.0 ++ f.1 ∷ f.2) ≡ Deep (f.1 ∷ f.2) = subst (λ z. read.source n z ≡ Deep (f.1 ∷ f.2)) f.4 (e ∙ ap Deep f.3) in
-    (record { before = f.0; token = f.1; after = f.2; is = f.4; none = λ tail u. none_within n f.0 f.1 f.2 tail u at }, f.3)

@@ -24,4 +24,5 @@ pub mod ClosingLemmas
 pub mod ClosingExpr
 pub mod ClosingStmt
 pub mod ClosingBodies
+pub mod ClosingUnit
 pub mod Samples

@@ -22,12 +22,17 @@ abbrev pub IsPlaceOf : Pos → List Token → Pos → Type 0
 IsPlaceOf end [] p = p ≡ end
 IsPlaceOf end (t ∷ ts) p = (p ≡ t.pos) ⊎ IsPlaceOf end ts p
 
--- More than `n` are open at a token: no text that begins with the tokens up to it has a tree in which no more is open.
+-- some text of the grammar begins with these tokens
+abbrev pub Begins : List Token → Type 0
+Begins ts = (n : ℕ) × (tail : List Token) × (u : Source) × Tree n (ts ++ tail) u
+
+-- More than `n` are open at a token: some text begins with the tokens up to it, but none in which no more is open.
 pub record GoesTooDeep (n : ℕ) (ts : List Token) : Type 0 where
   pub before : List Token
   pub token : Token
   pub after : List Token
   pub is : ts ≡ before ++ token ∷ after
+  pub begins : Begins (before ++ token ∷ [])
   pub none : (tail : List Token) (u : Source) → Tree n ((before ++ token ∷ []) ++ tail) u → ⊥
 
 abbrev pub IsTooDeep : List Token → Type 0
