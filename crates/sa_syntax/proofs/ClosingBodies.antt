@@ -1,5 +1,5 @@
 -- What is open in a statement that goes too deep can be closed.
-use Rattle.std.proofs.Common.{◌≡◌, ℕ, zero, suc, ◌-◌, ◌≤◌, ◌<◌, ◌+◌, List, [], ◌∷◌, ◌++◌, Bool, true, false, cond, refl, sym, ap, ◌∙◌, subst, arith, length, ◌⊎◌, inl, inr, Option, Some, None}
+use Rattle.std.proofs.Common.{◌≡◌, ℕ, zero, suc, List, [], ◌∷◌, ◌++◌, Bool, true, false, cond, refl, subst, arith, Option, Some, None}
 use Rattle.std.specs.Prelude.{◌&&◌, ◌||◌}
 use Rattle.sa_base.specs.declared.pos.Pos.{Pos}
 use Rattle.sa_tokens.specs.declared.keyword.Keyword.{Keyword}
@@ -9,71 +9,43 @@ use Rattle.sa_tokens.specs.declared.punct.Punct.TheVariants as m
 use Rattle.sa_tokens.specs.declared.token.Word.{Word}
 use Rattle.sa_tokens.specs.declared.token.Word.TheVariants.{Name, Number, Key, Mark}
 use Rattle.sa_tokens.specs.declared.token.Token.{Token}
-use Rattle.sa_syntax.specs.declared.decl.Name.{Name as Named}
-use Rattle.sa_syntax.specs.declared.decl.Specifiers.{Specifiers}
-use Rattle.sa_syntax.specs.declared.decl.Struct.{Struct}
-use Rattle.sa_syntax.specs.declared.decl.Declr.{Declr}
-use Rattle.sa_syntax.specs.declared.decl.Init.{Init}
-use Rattle.sa_syntax.specs.declared.decl.Init.TheVariants as init
-use Rattle.sa_syntax.specs.declared.decl.Start.TheVariants as start
 use Rattle.sa_syntax.specs.declared.expr.Expr.{Expr}
-use Rattle.sa_syntax.specs.declared.expr.Expr.TheVariants as e
 use Rattle.sa_syntax.specs.declared.expr.Place.{Place}
-use Rattle.sa_syntax.specs.declared.stmt.Compound.{Compound}
-use Rattle.sa_syntax.specs.declared.stmt.Turn.{Turn}
 use Rattle.sa_syntax.specs.declared.stmt.Turn.TheVariants as turn_word
 use Rattle.sa_syntax.specs.declared.expr.PlaceBase.TheVariants as at
 use Rattle.sa_syntax.specs.declared.stmt.Simple.{Simple}
 use Rattle.sa_syntax.specs.declared.stmt.Simple.TheVariants as simply
-use Rattle.sa_syntax.specs.declared.stmt.Arg.{Arg}
-use Rattle.sa_syntax.specs.declared.stmt.ArgValue.{ArgValue}
-use Rattle.sa_syntax.specs.declared.stmt.ArgValue.TheVariants as value
 use Rattle.sa_syntax.specs.declared.stmt.Call.{Call}
-use Rattle.sa_syntax.specs.declared.stmt.Directive.{Directive}
 use Rattle.sa_syntax.specs.declared.stmt.Directive.TheVariants as d
 use Rattle.sa_syntax.specs.declared.stmt.First.TheVariants as first
-use Rattle.sa_syntax.specs.declared.stmt.Label.{Label}
-use Rattle.sa_syntax.specs.declared.stmt.Label.TheVariants as label
-use Rattle.sa_syntax.specs.declared.stmt.LocalStart.TheVariants as begins
 use Rattle.sa_syntax.specs.declared.stmt.Stmt.{Stmt}
 use Rattle.sa_syntax.specs.declared.stmt.Stmt.TheVariants as s
-use Rattle.sa_syntax.specs.declared.stmt.BlockItem.{BlockItem}
 use Rattle.sa_syntax.specs.declared.stmt.BlockItem.TheVariants as item
 use Rattle.sa_syntax.specs.declared.stmt.Group.{Group}
 use Rattle.sa_syntax.specs.declared.stmt.First.{First}
-use Rattle.sa_syntax.specs.declared.unit.Params.{Params}
-use Rattle.sa_syntax.specs.declared.unit.Params.TheVariants as given
-use Rattle.sa_syntax.specs.declared.unit.Item.{Item}
-use Rattle.sa_syntax.specs.declared.unit.Item.TheVariants as top
 use Rattle.sa_syntax.specs.Trees as tree
-use Rattle.sa_syntax.specs.Words.{Names, mark, key, word, named, is_type_name, compound_of, turn_of, begins_with_star, begins_with_else, begins_with_label, is_void_alone}
-use Rattle.sa_syntax.specs.Expressions.{Whole, Place', Steps, Specifiers', Declr', Bounds, ScalarWords, Struct'}
-use Rattle.sa_syntax.specs.Statements.{all_named, Init', Inits, InitDeclr', InitDeclrs, ArgValue', Args, Call', Simple', LocalDeclr', LocalDeclrs, Local', Directive', First', Condition', Next', Label', Labels, Stmt', Nested, Groups, Body, Outermost}
-use Rattle.sa_syntax.specs.Reading.{Parser, Read, Got, Stuck, Deep, and_then, same_mark, is_mark, sees, after, expect, opens, any_name, variable, name_at, key_at, mark_at, unless_type, taken, many, turns, pure, refuse, ◌>>=◌, ◌>>◌}
-use Rattle.sa_syntax.specs.ReadExpr.{begins_type, is_some, inside}
-use Rattle.sa_syntax.specs.ReadExpr as expr
+use Rattle.sa_syntax.specs.Words.{Names, mark, key, word, named, is_type_name, begins_with_star, begins_with_else, begins_with_label}
+use Rattle.sa_syntax.specs.Expressions.{Place', Steps}
+use Rattle.sa_syntax.specs.Statements.{Call', Simple', Directive', First', Condition', Next', Labels, Stmt', Nested, Groups, Body, Outermost}
+use Rattle.sa_syntax.specs.Reading.{Parser, and_then, sees, after, expect, name_at, key_at, mark_at, many, pure, ◌>>=◌}
+use Rattle.sa_syntax.specs.ReadExpr.{begins_type, is_some}
 use Rattle.sa_syntax.specs.ReadStmt as read
 use Rattle.sa_syntax.specs.ReadStmt.{Bodies, takes, within, list}
-use Rattle.sa_syntax.proofs.ReadingLemmas.{Yields, map_yields, if_yields, Marked, Opened, IsWord, IsVariable, Keyed, KeyAt, MarkAt, name_at_is, key_at_is, mark_at_is, sees_is}
+use Rattle.sa_syntax.proofs.ReadingLemmas.{map_yields, Marked, Keyed, KeyAt, key_at_is}
 use Rattle.sa_syntax.proofs.ExprSound.{Within}
 use Rattle.sa_syntax.proofs.StmtSound as sound
 use Rattle.sa_syntax.proofs.StmtSound.{InBrackets}
-use Rattle.sa_syntax.proofs.RoomLemmas.{Less, less_many}
+use Rattle.sa_syntax.proofs.RoomLemmas.{less_many}
 use Rattle.sa_syntax.proofs.StmtRoom as room
-use Rattle.sa_syntax.proofs.DeepLemmas.{loosen, sees_ahead, Ahead, fine_many}
+use Rattle.sa_syntax.proofs.DeepLemmas.{loosen, fine_many}
 use Rattle.sa_syntax.proofs.DeepStmt as fine
-use Rattle.sa_syntax.proofs.ExprSound as expr_sound
-use Rattle.sa_syntax.proofs.ExprRoom as expr_room
-use Rattle.sa_syntax.proofs.DeepExpr as expr_fine
-use Rattle.sa_syntax.proofs.ClosingLemmas.{Closed, Calm, Good, Any, Some', Front, calm_then, calm_if, calm_takes, calm_ends, closed_calm, closed_map, closed_if, closed_any, closed_reader, deeper_room, closed_then, closed_next, closed_last, closed_tail, closed_opens, opens_from, closed_many, closed_through, direct_many, list_closed, calm_expect, calm_any_name, calm_variable, calm_many, good_leaf, good_expect, good_any_name, good_variable, good_opens, opens_closed, stepped}
-use Rattle.sa_syntax.proofs.ClosingExpr as closing
-use Rattle.sa_syntax.proofs.ClosingExpr.{spot, close, nought, fresh, fresh-is, zero-whole, letter, letter_declr, int, int_type, int-type, good_whole, good_type, good_declr, all_closed}
-
+use Rattle.sa_syntax.proofs.ClosingLemmas.{Closed, Calm, Good, Any, Some', Front, calm_then, calm_takes, calm_ends, closed_calm, closed_map, closed_if, deeper_room, closed_then, closed_next, closed_last, closed_tail, closed_opens, closed_many, closed_through, direct_many, calm_expect, good_expect, stepped}
+use Rattle.sa_syntax.proofs.ClosingExpr.{spot, close, nought, fresh, fresh-is, zero-whole}
 use Rattle.sa_syntax.proofs.UnitSound as unit_sound
 use Rattle.sa_syntax.proofs.UnitSound.{bodies_sound}
 use Rattle.sa_syntax.proofs.StmtRoom.{bodies_room, stmt_less}
 use Rattle.sa_syntax.proofs.DeepUnit.{bodies_fine}
-use Rattle.sa_syntax.proofs.ClosingStmt.{zero_expr, expr_closed, place_closed, good_place, call_closed, good_call, Behind, assigned_closed, simple_closed, local_closed, good_local, bare_closed, with_expr_closed, ended_closed, condition_closed, good_condition, first_of_closed, expr_before_closed, simple_before_closed, good_first, good_expr_before, good_simple_before, a_label_closed, good_label, MoreLabels, more_labels_closed}
+use Rattle.sa_syntax.proofs.ClosingStmt.{zero_expr, place_closed, good_place, call_closed, assigned_closed, simple_closed, local_closed, bare_closed, with_expr_closed, ended_closed, condition_closed, good_condition, first_of_closed, expr_before_closed, simple_before_closed, good_first, good_expr_before, good_simple_before, a_label_closed, good_label, more_labels_closed}
 
 -- ---- a statement by its first token
 abbrev Starts : Names → Token → Type 0
@@ -227,7 +199,7 @@ module _ (ns : Names) (n : ℕ) (inner : Inner ns n) where
   unfolding read.assigned_stmt read.gives read.simple_ended
   assigned_stmt_closed star x us = closed_if (sees m.Equal us && read.sees_call ns (after us))
       (λ h. closed_next (good_expect m.Equal) n us (calm_expect m.Equal us) (λ p vs.
-          closed_last n vs (semicolon ∷ []) (λ more ws c rest i us k ss j. gives_place ns more x us p ws c rest k i ss j) (call_closed ns n vs) (λ c ws. calm_ends m.Semicolon (s.Gives x p c) ws)))
+      closed_last n vs (semicolon ∷ []) (λ more ws c rest i us k ss j. gives_place ns more x us p ws c rest k i ss j) (call_closed ns n vs) (λ c ws. calm_ends m.Semicolon (s.Gives x p c) ws)))
       (λ h. closed_tail n us (semicolon ∷ []) (λ more vs rest go ss i. let k = go ss i in (s.Simple (k.0), Stmt'.simple_stmt (k.1))) (assigned_closed ns n star x us) (λ a vs. calm_ends m.Semicolon (s.Simple a) vs))
 
   placed_closed : (ts : List Token) → Closed Any (Some' (Stmt' ns)) n ts (read.placed ns n (read.bodies ns n) ts)
@@ -294,8 +266,8 @@ module _ (ns : Names) (n : ℕ) (inner : Inner ns n) where
   for_closed : (ts : List Token) → Keyed k.For ts → Closed Any (Some' (Stmt' ns)) n ts (read.for_stmt ns n (read.bodies ns n) ts)
   unfolding read.for_stmt read.bodies
   for_closed _ (Keyed.keyed {p} {us}) = stepped (key k.For p) (closed_opens (λ n o.
-          within (read.first_of ns) n >>= (λ f. expect m.Semicolon >>= (λ _. within (read.expr_before ns m.Semicolon) n >>= (λ c. expect m.Semicolon >>= (λ _. within (read.simple_before ns m.CloseParen) n >>= (λ x. expect m.CloseParen >>= (λ _.
-          (read.bodies ns n).stmt >>= (λ a. pure (s.For p f c x a))))))))) n m.OpenParen us (semicolon ∷ semicolon ∷ close m.CloseParen ∷ semicolon ∷ []) (λ o. tt)
+      within (read.first_of ns) n >>= (λ f. expect m.Semicolon >>= (λ _. within (read.expr_before ns m.Semicolon) n >>= (λ c. expect m.Semicolon >>= (λ _. within (read.simple_before ns m.CloseParen) n >>= (λ x. expect m.CloseParen >>= (λ _.
+      (read.bodies ns n).stmt >>= (λ a. pure (s.For p f c x a))))))))) n m.OpenParen us (semicolon ∷ semicolon ∷ close m.CloseParen ∷ semicolon ∷ []) (λ o. tt)
       (λ more o rest. (s.For p first.Nothing None None (s.Empty spot), Stmt'.for First'.nothing Condition'.always Next'.nothing Stmt'.empty))
       (λ i h o vs.
       closed_then (good_first ns) i vs (semicolon ∷ semicolon ∷ close m.CloseParen ∷ semicolon ∷ []) (λ more a0 f rest x. (s.For p f None None (s.Empty spot), Stmt'.for x Condition'.always Next'.nothing Stmt'.empty)) (first_of_closed ns i vs) (λ f ws.

@@ -1,7 +1,6 @@
 -- What is open in an expression, a place or a type that goes too deep can be closed.
 use Rattle.std.proofs.Common.{◌≡◌, ℕ, zero, suc, ◌+◌, ◌≤◌, List, [], ◌∷◌, ◌++◌, Bool, true, false, cond, refl, sym, ap, ◌∙◌, subst, length, append_assoc, replicate, ◌<◌, arith, Option, Some, None}
-use Rattle.std.specs.Prelude.{◌||◌, ◌&&◌}
-use Rattle.std.specs.List.{list_any}
+use Rattle.std.specs.Prelude.{◌&&◌}
 use Rattle.std.specs.Str.{bytes_eq}
 use Rattle.std.proofs.lemmas.List.{length-replicate}
 use Rattle.std.proofs.lemmas.Slice.Eq.{bytes_eq-Decides}
@@ -25,15 +24,14 @@ use Rattle.sa_syntax.specs.declared.expr.Expr.{Expr}
 use Rattle.sa_syntax.specs.declared.expr.Expr.TheVariants as e
 use Rattle.sa_syntax.specs.declared.expr.Link.{Link}
 use Rattle.sa_syntax.specs.declared.expr.Operator.{Operator}
-use Rattle.sa_syntax.specs.declared.expr.Place.{Place}
 use Rattle.sa_syntax.specs.declared.expr.PlaceBase.TheVariants as at
 use Rattle.sa_syntax.specs.declared.expr.Prefix.{Prefix}
 use Rattle.sa_syntax.specs.declared.expr.Step.{Step}
 use Rattle.sa_syntax.specs.declared.expr.Step.TheVariants as step
 use Rattle.sa_syntax.specs.Trees as tree
-use Rattle.sa_syntax.specs.Words.{Names, mark, key, word, literal, named, is_type_name, is_star, is_close, is_name_and_close, is_through, prefix_of, operator_of, level_of, loosest}
+use Rattle.sa_syntax.specs.Words.{Names, mark, key, word, literal, named, is_type_name, is_star, is_name_and_close, is_through, prefix_of, loosest}
 use Rattle.sa_syntax.specs.Expressions.{Whole, Ranked, Links, Unary, Place', Steps, Specifiers', Qualifiers, ScalarWords, Base', Struct', Fields, Declrs, Declr', Bounds}
-use Rattle.sa_syntax.specs.Reading.{Parser, Read, Got, Stuck, Deep, and_then, same_mark, sees, opens, after, expect, any_name, variable, name_at, key_at, mark_at, many, pure, ◌>>=◌}
+use Rattle.sa_syntax.specs.Reading.{Parser, Read, Got, Stuck, and_then, same_mark, sees, opens, after, expect, name_at, key_at, mark_at, many, pure, ◌>>=◌}
 use Rattle.sa_syntax.specs.ReadExpr as read
 use Rattle.sa_syntax.specs.ReadExpr.{Inner, inside}
 use Rattle.sa_syntax.proofs.ReadingLemmas.{Yields, if_yields, Marked, Opened, IsWord, IsVariable, Keyed, name_at_is, key_at_is}
@@ -337,7 +335,7 @@ module _ (ns : Names) (n : ℕ) (deeper : (i : ℕ) → n ≡ suc i → Deeper n
   fields_closed ts = closed_then (good_field ns) n ts [] (λ more ss f rest go. (f ∷ [], sound.SomeFields.some_fields (go [] rest Fields.no_field))) (field_closed ts) (λ f us.
       closed_last n us [] (λ more vs fs rest i ss go. (f ∷ fs, sound.SomeFields.some_fields (go fs rest i)))
       (closed_many (Fields ns) (λ more us. Fields.no_field) (read.no_brace ns n (inside ns n)) (fine.no_brace_ahead ns n (inside ns n) (inside_fine ns n)) (λ n. read.field ns n (inside ns n))
-          (λ n. fine.field_fine ns n (inside ns n) (inside_fine ns n)) (good_field ns).less (λ n ts h. (good_field ns).sound n ts) n (λ ts h. field_closed ts) us) (λ fs vs. Calm.got))
+      (λ n. fine.field_fine ns n (inside ns n) (inside_fine ns n)) (good_field ns).less (λ n ts h. (good_field ns).sound n ts) n (λ ts h. field_closed ts) us) (λ fs vs. Calm.got))
 
 -- ---- expressions
 -- the test of a place through a reference looks no further than the token, which is not plain
@@ -420,8 +418,8 @@ module _ (ns : Names) (n : ℕ) (deeper : (i : ℕ) → n ≡ suc i → Deeper n
   cast_closed ts = closed_opens (λ n p. (inside ns n).specifiers >>= (λ t. expect m.CloseParen >>= (λ q. (inside ns n).unary >>= (λ a. pure (e.Cast p t a))))) n m.OpenParen ts (int ∷ close m.CloseParen ∷ nought ∷ []) (λ p. refl)
       (λ more p rest. (e.Cast p int_type (e.Number 0 false 0 false spot), Unary.cast (int-type ns more (close m.CloseParen ∷ nought ∷ rest) ScalarWords.no_word) Unary.number))
       (λ i h p us. closed_then (good_type ns) i us (close m.CloseParen ∷ nought ∷ []) (λ more ss t rest s. (e.Cast p t (e.Number 0 false 0 false spot), Unary.cast s Unary.number)) ((deeper i h).specifiers us) (λ t vs.
-          closed_next (good_expect m.CloseParen) i vs (calm_expect m.CloseParen vs) (λ q ws.
-          closed_last i ws [] (λ more xs a rest u vs c us s. (e.Cast p t a, cast_unary ns more p us t vs q xs a rest s c u)) ((deeper i h).unary ws) (λ a xs. Calm.got))))
+      closed_next (good_expect m.CloseParen) i vs (calm_expect m.CloseParen vs) (λ q ws.
+      closed_last i ws [] (λ more xs a rest u vs c us s. (e.Cast p t a, cast_unary ns more p us t vs q xs a rest s c u)) ((deeper i h).unary ws) (λ a xs. Calm.got))))
 
   bracket_marked : (ts : List Token) (p : Pos) (us : List Token) → Marked m.OpenParen ts p us → is_through (after ts) ≡ false → Closed Opener (Some' (Unary ns)) n ts (read.bracket ns n (inside ns n) ts)
   unfolding read.bracket inside opens sees same_mark
@@ -467,7 +465,7 @@ module _ (ns : Names) (n : ℕ) (deeper : (i : ℕ) → n ≡ suc i → Deeper n
       let same : guarded (read.sees_operator (suc l)) (λ _. read.operator) n ts ≡ read.operator ts = ap (λ b. cond b (read.operator ts) (Stuck ts)) h in
       subst (λ (x : Read Operator). Closed Opener (Some' (Front (λ more ss xs us. Links ns more l ss xs us))) n ts (and_then x (λ op. read.ranked ns n (inside ns n) l >>= (λ a. pure (tree.link op (tree.pos_of ts) a))))) same
       (closed_next (good_operator l) n ts (calm_if (read.sees_operator (suc l) ts) (calm_operator ts) Calm.stuck) (λ op us.
-          closed_last n us [] (λ more vs a rest i ss o. (tree.link op (tree.pos_of ss) a, link_front ns more l ss op vs a rest o i)) (one us) (λ a vs. Calm.got)))
+      closed_last n us [] (λ more vs a rest i ss o. (tree.link op (tree.pos_of ss) a, link_front ns more l ss op vs a rest o i)) (one us) (λ a vs. Calm.got)))
 
   links_closed : (l : ℕ) → ((ts : List Token) → Closed Opener (Some' (λ more ts a us. Ranked ns more l ts a us)) n ts (read.ranked ns n (inside ns n) l ts)) → (ts : List Token)
       → Closed Opener (Some' (λ more ss xs us. Links ns more l ss xs us)) n ts (many (read.sees_operator (suc l)) (read.a_link ns n (inside ns n) (read.ranked ns n (inside ns n) l)) ts)
@@ -487,8 +485,8 @@ module _ (ns : Names) (n : ℕ) (deeper : (i : ℕ) → n ≡ suc i → Deeper n
   choice_closed c ts = closed_opens (λ n p. (inside ns n).whole >>= (λ a. expect m.Colon >>= (λ q. (inside ns n).whole >>= (λ f. pure (e.Choice c p a f))))) n m.Question ts (nought ∷ close m.Colon ∷ nought ∷ []) (λ p. refl)
       (λ more p rest ss r. (e.Choice c p (e.Number 0 false 0 false spot) (e.Number 0 false 0 false spot), Whole.choice r (zero-whole ns more (close m.Colon ∷ nought ∷ rest)) (zero-whole ns more rest)))
       (λ i h p us. closed_then (good_whole ns) i us (close m.Colon ∷ nought ∷ []) (λ more xs a rest w ss r. (e.Choice c p a (e.Number 0 false 0 false spot), Whole.choice r w (zero-whole ns more rest))) ((deeper i h).whole us) (λ a vs.
-          closed_next (good_expect m.Colon) i vs (calm_expect m.Colon vs) (λ q ws.
-          closed_last i ws [] (λ more zs f rest j vs d us w ss r. (e.Choice c p a f, choice_whole ns more c p ss us a vs q zs f rest r w d j)) ((deeper i h).whole ws) (λ f zs. Calm.got))))
+      closed_next (good_expect m.Colon) i vs (calm_expect m.Colon vs) (λ q ws.
+      closed_last i ws [] (λ more zs f rest j vs d us w ss r. (e.Choice c p a f, choice_whole ns more c p ss us a vs q zs f rest r w d j)) ((deeper i h).whole ws) (λ f zs. Calm.got))))
 
   pub whole_closed : (ts : List Token) → Closed Opener (Some' (Whole ns)) n ts (read.whole ns n (inside ns n) ts)
   unfolding read.whole

@@ -1,13 +1,11 @@
 -- What is open where a reader goes too deep can be closed.
-use Rattle.std.proofs.Common.{◌≡◌, ℕ, zero, suc, ◌+◌, ◌≤◌, ◌<◌, List, [], ◌∷◌, ◌++◌, Bool, true, false, cond, refl, sym, ap, ◌∙◌, subst, length, append_assoc, length-append, arith, Option, Some, None}
+use Rattle.std.proofs.Common.{◌≡◌, ℕ, zero, suc, ◌+◌, ◌≤◌, List, [], ◌∷◌, ◌++◌, Bool, true, false, cond, refl, sym, ap, ◌∙◌, subst, length, append_assoc, length-append, arith, Option, Some, None}
 use Rattle.sa_base.specs.declared.pos.Pos.{Pos}
 use Rattle.sa_tokens.specs.declared.punct.Punct.{Punct}
 use Rattle.sa_tokens.specs.declared.punct.Punct.TheVariants as m
-use Rattle.sa_tokens.specs.declared.token.Word.{Word}
-use Rattle.sa_tokens.specs.declared.token.Word.TheVariants.{Name, Number, Key, Mark}
 use Rattle.sa_tokens.specs.declared.token.Token.{Token}
 use Rattle.sa_syntax.specs.Words.{Names, mark}
-use Rattle.sa_syntax.specs.Reading.{Read, Got, Stuck, Deep, Parser, and_then, is_mark, sees, after, expect, any_name, variable, name_at, unless_type, taken, opens_any, opens, turns, while_from, many, ◌>>=◌}
+use Rattle.sa_syntax.specs.Reading.{Read, Got, Stuck, Deep, Parser, and_then, is_mark, sees, after, expect, any_name, variable, name_at, unless_type, taken, opens_any, opens, turns, while_from, many}
 use Rattle.sa_syntax.specs.ReadStmt.{takes, list_from, list}
 use Rattle.sa_syntax.proofs.ReadingLemmas.{Yields, yielded, if_yields, Marked, sees_is, expect_yields, Opened, opens_yields, IsWord, any_name_yields, IsVariable, variable_yields}
 use Rattle.sa_syntax.proofs.RoomLemmas.{Less, less_if, less_opens}
@@ -309,7 +307,7 @@ list_closed_from One Rest close one good last next n each (suc left) found ts =
     closed_then good n ts (mark close (record { line = 1; col = 1 }) ∷ []) (λ more ss x rest i. (x ∷ [], last more ss x _ rest i)) (each ts) (λ x us.
     closed_if (sees m.Comma us)
     (λ h. let c = sees_is m.Comma us h in comma_closed us (c.0) (after us) (c.1)
-        (closed_map (λ more ws rest r p ss i. (x ∷ (r.0), next more ss x p ws (r.0) rest i (r.1))) (list_closed_from One Rest close one good last next n each left (found ++ x ∷ []) (after us))))
+    (closed_map (λ more ws rest r p ss i. (x ∷ (r.0), next more ss x p ws (r.0) rest i (r.1))) (list_closed_from One Rest close one good last next n each left (found ++ x ∷ []) (after us))))
     (λ h. closed_calm (calm_ends close (found ++ x ∷ []) us)))
 
 pub list_closed : {A : Type 0} {O : Token → Type 0} (One : ℕ → List Token → A → List Token → Type 0) (Rest : ℕ → List Token → List A → List Token → Type 0) (close : Punct) (one : ℕ → Parser A) → Good one One

@@ -1,17 +1,13 @@
 -- What is open in a part of a statement that goes too deep can be closed.
-use Rattle.std.proofs.Common.{◌≡◌, ℕ, zero, suc, ◌-◌, ◌≤◌, ◌<◌, ◌+◌, List, [], ◌∷◌, ◌++◌, Bool, true, false, cond, refl, sym, ap, ◌∙◌, subst, arith, length, ◌⊎◌, inl, inr, Option, Some, None}
-use Rattle.std.specs.Prelude.{◌&&◌, ◌||◌}
+use Rattle.std.proofs.Common.{◌≡◌, ℕ, zero, suc, ◌-◌, List, [], ◌∷◌, ◌++◌, Bool, false, refl, sym, subst, arith, Option, Some, None}
 use Rattle.sa_base.specs.declared.pos.Pos.{Pos}
 use Rattle.sa_tokens.specs.declared.keyword.Keyword.{Keyword}
 use Rattle.sa_tokens.specs.declared.keyword.Keyword.TheVariants as k
 use Rattle.sa_tokens.specs.declared.punct.Punct.{Punct}
 use Rattle.sa_tokens.specs.declared.punct.Punct.TheVariants as m
-use Rattle.sa_tokens.specs.declared.token.Word.{Word}
-use Rattle.sa_tokens.specs.declared.token.Word.TheVariants.{Name, Number, Key, Mark}
 use Rattle.sa_tokens.specs.declared.token.Token.{Token}
 use Rattle.sa_syntax.specs.declared.decl.Name.{Name as Named}
 use Rattle.sa_syntax.specs.declared.decl.Specifiers.{Specifiers}
-use Rattle.sa_syntax.specs.declared.decl.Struct.{Struct}
 use Rattle.sa_syntax.specs.declared.decl.Declr.{Declr}
 use Rattle.sa_syntax.specs.declared.decl.Init.{Init}
 use Rattle.sa_syntax.specs.declared.decl.Init.TheVariants as init
@@ -21,46 +17,35 @@ use Rattle.sa_syntax.specs.declared.expr.Expr.TheVariants as e
 use Rattle.sa_syntax.specs.declared.expr.Place.{Place}
 use Rattle.sa_syntax.specs.declared.stmt.Compound.{Compound}
 use Rattle.sa_syntax.specs.declared.stmt.Turn.{Turn}
-use Rattle.sa_syntax.specs.declared.stmt.Simple.{Simple}
 use Rattle.sa_syntax.specs.declared.stmt.Simple.TheVariants as simply
 use Rattle.sa_syntax.specs.declared.stmt.Arg.{Arg}
 use Rattle.sa_syntax.specs.declared.stmt.ArgValue.{ArgValue}
 use Rattle.sa_syntax.specs.declared.stmt.ArgValue.TheVariants as value
 use Rattle.sa_syntax.specs.declared.stmt.Call.{Call}
 use Rattle.sa_syntax.specs.declared.stmt.Directive.{Directive}
-use Rattle.sa_syntax.specs.declared.stmt.Directive.TheVariants as d
 use Rattle.sa_syntax.specs.declared.stmt.First.TheVariants as first
 use Rattle.sa_syntax.specs.declared.stmt.Label.{Label}
 use Rattle.sa_syntax.specs.declared.stmt.Label.TheVariants as label
 use Rattle.sa_syntax.specs.declared.stmt.LocalStart.TheVariants as begins
-use Rattle.sa_syntax.specs.declared.stmt.Stmt.{Stmt}
 use Rattle.sa_syntax.specs.declared.stmt.Stmt.TheVariants as s
-use Rattle.sa_syntax.specs.declared.stmt.BlockItem.TheVariants as item
-use Rattle.sa_syntax.specs.declared.unit.Params.{Params}
-use Rattle.sa_syntax.specs.declared.unit.Params.TheVariants as given
-use Rattle.sa_syntax.specs.declared.unit.Item.{Item}
-use Rattle.sa_syntax.specs.declared.unit.Item.TheVariants as top
 use Rattle.sa_syntax.specs.Trees as tree
-use Rattle.sa_syntax.specs.Words.{Names, mark, key, word, named, is_type_name, compound_of, turn_of, begins_with_star, begins_with_else, begins_with_label, is_void_alone}
-use Rattle.sa_syntax.specs.Expressions.{Whole, Place', Steps, Specifiers', Declr', Bounds, ScalarWords, Struct'}
-use Rattle.sa_syntax.specs.Statements.{all_named, Init', Inits, InitDeclr', InitDeclrs, ArgValue', Args, Call', Simple', LocalDeclr', LocalDeclrs, Local', Directive', First', Condition', Next', Label', Labels, Stmt', Nested, Groups, Body, Outermost}
-use Rattle.sa_syntax.specs.Reading.{Parser, Read, Got, Stuck, Deep, and_then, same_mark, is_mark, sees, after, expect, opens, any_name, variable, name_at, key_at, mark_at, unless_type, taken, many, turns, pure, refuse, ◌>>=◌, ◌>>◌}
-use Rattle.sa_syntax.specs.ReadExpr.{begins_type, is_some, inside}
-use Rattle.sa_syntax.specs.ReadExpr as expr
+use Rattle.sa_syntax.specs.Words.{Names, mark, key, word, compound_of, turn_of, begins_with_star, begins_with_label}
+use Rattle.sa_syntax.specs.Expressions.{Whole, Place', Specifiers', Declr', Bounds}
+use Rattle.sa_syntax.specs.Statements.{Init', Inits, InitDeclr', ArgValue', Args, Call', Simple', LocalDeclr', LocalDeclrs, Local', Directive', First', Condition', Next', Label', Labels, Stmt'}
+use Rattle.sa_syntax.specs.Reading.{Parser, Deep, and_then, sees, after, expect, opens, key_at, mark_at, many, turns, pure, ◌>>=◌}
+use Rattle.sa_syntax.specs.ReadExpr.{begins_type}
 use Rattle.sa_syntax.specs.ReadStmt as read
 use Rattle.sa_syntax.specs.ReadStmt.{Bodies, takes, within, list}
-use Rattle.sa_syntax.proofs.ReadingLemmas.{Yields, map_yields, if_yields, Marked, Opened, IsWord, IsVariable, Keyed, KeyAt, MarkAt, name_at_is, key_at_is, mark_at_is, sees_is}
+use Rattle.sa_syntax.proofs.ReadingLemmas.{map_yields, Marked, IsVariable, Keyed, key_at_is, mark_at_is}
 use Rattle.sa_syntax.proofs.ExprSound.{Within}
 use Rattle.sa_syntax.proofs.StmtSound as sound
 use Rattle.sa_syntax.proofs.StmtSound.{InBrackets}
-use Rattle.sa_syntax.proofs.RoomLemmas.{Less}
 use Rattle.sa_syntax.proofs.StmtRoom as room
-use Rattle.sa_syntax.proofs.DeepLemmas.{loosen, sees_ahead, Ahead}
+use Rattle.sa_syntax.proofs.DeepLemmas.{loosen}
 use Rattle.sa_syntax.proofs.DeepStmt as fine
 use Rattle.sa_syntax.proofs.ExprSound as expr_sound
 use Rattle.sa_syntax.proofs.ExprRoom as expr_room
-use Rattle.sa_syntax.proofs.DeepExpr as expr_fine
-use Rattle.sa_syntax.proofs.ClosingLemmas.{Closed, Calm, Good, Any, Some', Front, calm_then, calm_if, calm_takes, calm_ends, closed_calm, closed_map, closed_if, closed_any, closed_reader, deeper_room, closed_then, closed_next, closed_last, closed_tail, closed_opens, opens_from, closed_many, list_closed, calm_expect, calm_any_name, calm_variable, calm_many, good_leaf, good_expect, good_any_name, good_variable, good_opens, opens_closed, stepped}
+use Rattle.sa_syntax.proofs.ClosingLemmas.{Closed, Calm, Good, Any, Some', calm_then, calm_if, calm_takes, calm_ends, closed_calm, closed_map, closed_if, closed_any, closed_reader, closed_then, closed_next, closed_last, closed_tail, closed_opens, opens_from, closed_many, list_closed, calm_expect, calm_variable, good_expect, good_variable, stepped}
 use Rattle.sa_syntax.proofs.ClosingExpr as closing
 use Rattle.sa_syntax.proofs.ClosingExpr.{spot, close, nought, fresh, fresh-is, zero-whole, letter, letter_declr, int, int_type, int-type, good_whole, good_type, good_declr, all_closed}
 
@@ -97,9 +82,9 @@ inits_from_closed ns i each (suc left) found ts =
     closed_then (good_init ns) i ts (close m.CloseBrace ∷ []) (λ more ss x rest j. (x ∷ [], Inits.last_init j)) (each ts) (λ x us.
     closed_reader _ _ (sees m.Comma us) us
     (λ h. closed_next (good_expect m.Comma) i us (calm_expect m.Comma us) (λ p vs.
-        closed_reader _ _ (sees m.CloseBrace vs) vs
-        (λ g. closed_calm (calm_ends m.CloseBrace (found ++ x ∷ []) vs))
-        (λ g. closed_map (λ more ws rest r us c ss j. (x ∷ (r.0), next_inits ns more ss x us p ws (r.0) rest j c (r.1))) (inits_from_closed ns i each left (found ++ x ∷ []) vs))))
+    closed_reader _ _ (sees m.CloseBrace vs) vs
+    (λ g. closed_calm (calm_ends m.CloseBrace (found ++ x ∷ []) vs))
+    (λ g. closed_map (λ more ws rest r us c ss j. (x ∷ (r.0), next_inits ns more ss x us p ws (r.0) rest j c (r.1))) (inits_from_closed ns i each left (found ++ x ∷ []) vs))))
     (λ h. closed_calm (calm_ends m.CloseBrace (found ++ x ∷ []) us)))
 
 braces_closed : (ns : Names) (n : ℕ) (one : Parser Init) → ((i : ℕ) → n ≡ suc i → (ts : List Token) → Closed Any (Some' (Inits ns)) i ts (read.inits_from one (turns ts) [] ts)) → (ts : List Token) → Closed Any (Some' (Init' ns)) n ts (read.braces n one ts)
@@ -127,7 +112,7 @@ unfolding read.init_declr
 init_declr_closed ns n ts = closed_then (good_declr ns) n ts [] (λ more ss x rest i. (tree.init_declr x start.Nothing, InitDeclr'.plain i)) (declr_closed ns n ts) (λ x us.
     closed_if (sees m.Equal us)
     (λ h. closed_next (good_expect m.Equal) n us (calm_expect m.Equal us) (λ p vs.
-        closed_last n vs [] (λ more ws i rest j us c ss d. (tree.init_declr x (start.Init p i), init_with ns more ss x us p ws i rest d c j)) (init_at_closed ns n vs) (λ i ws. Calm.got)))
+    closed_last n vs [] (λ more ws i rest j us c ss d. (tree.init_declr x (start.Init p i), init_with ns more ss x us p ws i rest d c j)) (init_at_closed ns n vs) (λ i ws. Calm.got)))
     (λ h. Closed.got))
 
 -- ---- calls
@@ -153,7 +138,7 @@ args_from_closed ns n (suc left) p found ts =
     closed_then (good_arg ns) n ts (close m.CloseParen ∷ []) (λ more ss v rest i. (tree.arg p v ∷ [], Args.last_arg i)) (arg_value_closed ns n ts) (λ v us.
     closed_if (sees m.Comma us)
     (λ h. closed_next (good_expect m.Comma) n us (calm_expect m.Comma us) (λ q vs.
-        closed_map (λ more ws rest r us c ss i. (tree.arg p v ∷ (r.0), next_args ns more p ss v us q ws (r.0) rest i c (r.1))) (args_from_closed ns n left q (found ++ tree.arg p v ∷ []) vs)))
+    closed_map (λ more ws rest r us c ss i. (tree.arg p v ∷ (r.0), next_args ns more p ss v us q ws (r.0) rest i c (r.1))) (args_from_closed ns n left q (found ++ tree.arg p v ∷ []) vs)))
     (λ h. closed_calm (calm_ends m.CloseParen (found ++ tree.arg p v ∷ []) us)))
 
 args_closed : (ns : Names) (p : Pos) (n : ℕ) (ts : List Token) → Closed Any (Some' (λ more ss xs us. Args ns more p ss xs us)) n ts (read.args ns p n ts)
@@ -265,8 +250,8 @@ unfolding read.bare read.double_bracket
 bare_closed ns n kw x make _ (Keyed.keyed {p} {us}) = stepped (key kw p) (opens_from 2 (λ n q. opens (n - 1) m.OpenParen >>= (λ r. expect m.CloseParen >>= (λ _. expect m.CloseParen >>= (λ _. pure x)))) n m.OpenParen us (close m.OpenParen ∷ close m.CloseParen ∷ close m.CloseParen ∷ []) (λ q. tt)
     (λ q rest. (x, make 0 p q spot spot spot rest))
     (λ i h q vs. subst (λ k. Closed Any (λ more vs rest. Some' (Directive' ns) (suc more) (key kw p ∷ mark m.OpenParen q ∷ vs) rest) i vs (and_then (opens k m.OpenParen vs) (λ r. expect m.CloseParen >>= (λ _. expect m.CloseParen >>= (λ _. pure x))))) (sym (one_less i))
-        (closed_opens (λ i r. expect m.CloseParen >>= (λ _. expect m.CloseParen >>= (λ _. pure x))) i m.OpenParen vs (close m.CloseParen ∷ close m.CloseParen ∷ []) (λ r. tt)
-        (λ more r rest. (x, make more p q r spot spot rest)) (λ j g r ws. closed_calm (calm_then (calm_expect m.CloseParen ws) (λ a xs. calm_ends m.CloseParen x xs))))))
+    (closed_opens (λ i r. expect m.CloseParen >>= (λ _. expect m.CloseParen >>= (λ _. pure x))) i m.OpenParen vs (close m.CloseParen ∷ close m.CloseParen ∷ []) (λ r. tt)
+    (λ more r rest. (x, make more p q r spot spot rest)) (λ j g r ws. closed_calm (calm_then (calm_expect m.CloseParen ws) (λ a xs. calm_ends m.CloseParen x xs))))))
 
 double_closed : (ns : Names) (n : ℕ) (kw : Keyword) (f : Expr → Directive) → ((more : ℕ) (p q r s t : Pos) (ts us : List Token) (a : Expr) → Whole ns more ts a (mark m.CloseParen s ∷ mark m.CloseParen t ∷ us) → Directive' ns (suc (suc more)) (key kw p ∷ mark m.OpenParen q ∷ mark m.OpenParen r ∷ ts) (f a) us)
     → (p : Pos) (us : List Token) → Closed Any (λ more us rest. (a : Expr) × Directive' ns more (key kw p ∷ us) (f a) rest) n us (read.double_bracket n (within (within (λ n. read.expr ns n)) n) us)
@@ -274,9 +259,9 @@ unfolding read.double_bracket
 double_closed ns n kw f make p us = opens_from 2 (λ n q. opens (n - 1) m.OpenParen >>= (λ r. within (within (λ n. read.expr ns n)) n >>= (λ a. expect m.CloseParen >>= (λ _. expect m.CloseParen >>= (λ _. pure a))))) n m.OpenParen us (close m.OpenParen ∷ nought ∷ close m.CloseParen ∷ close m.CloseParen ∷ []) (λ q. tt)
     (λ q rest. (zero_expr, make 0 p q spot spot spot _ rest zero_expr (zero-whole ns 0 (close m.CloseParen ∷ close m.CloseParen ∷ rest))))
     (λ i h q vs. subst (λ k. Closed Any (λ more vs rest. (a : Expr) × Directive' ns (suc more) (key kw p ∷ mark m.OpenParen q ∷ vs) (f a) rest) i vs (and_then (opens k m.OpenParen vs) (λ r. within (λ n. read.expr ns n) i >>= (λ a. expect m.CloseParen >>= (λ _. expect m.CloseParen >>= (λ _. pure a)))))) (sym (one_less i))
-        (closed_opens (λ i r. within (λ n. read.expr ns n) i >>= (λ a. expect m.CloseParen >>= (λ _. expect m.CloseParen >>= (λ _. pure a)))) i m.OpenParen vs (nought ∷ close m.CloseParen ∷ close m.CloseParen ∷ []) (λ r. tt)
-        (λ more r rest. (zero_expr, make more p q r spot spot _ rest zero_expr (zero-whole ns more (close m.CloseParen ∷ close m.CloseParen ∷ rest))))
-        (λ j g r ws. closed_last j ws (close m.CloseParen ∷ close m.CloseParen ∷ []) (λ more xs a rest w. (a, make more p q r spot spot xs rest a w)) (expr_closed ns j ws) (λ a xs. calm_then (calm_expect m.CloseParen xs) (λ _ ys. calm_ends m.CloseParen a ys)))))
+    (closed_opens (λ i r. within (λ n. read.expr ns n) i >>= (λ a. expect m.CloseParen >>= (λ _. expect m.CloseParen >>= (λ _. pure a)))) i m.OpenParen vs (nought ∷ close m.CloseParen ∷ close m.CloseParen ∷ []) (λ r. tt)
+    (λ more r rest. (zero_expr, make more p q r spot spot _ rest zero_expr (zero-whole ns more (close m.CloseParen ∷ close m.CloseParen ∷ rest))))
+    (λ j g r ws. closed_last j ws (close m.CloseParen ∷ close m.CloseParen ∷ []) (λ more xs a rest w. (a, make more p q r spot spot xs rest a w)) (expr_closed ns j ws) (λ a xs. calm_then (calm_expect m.CloseParen xs) (λ _ ys. calm_ends m.CloseParen a ys)))))
 
 pub with_expr_closed : (ns : Names) (n : ℕ) (kw : Keyword) (f : Expr → Directive) → ((more : ℕ) (p q r s t : Pos) (ts us : List Token) (a : Expr) → Whole ns more ts a (mark m.CloseParen s ∷ mark m.CloseParen t ∷ us) → Directive' ns (suc (suc more)) (key kw p ∷ mark m.OpenParen q ∷ mark m.OpenParen r ∷ ts) (f a) us)
     → (ts : List Token) → Keyed kw ts → Closed Any (Some' (Directive' ns)) n ts (read.with_expr ns n f ts)
@@ -305,9 +290,9 @@ pub first_of_closed : (ns : Names) (n : ℕ) (ts : List Token) → Closed Any (S
 unfolding read.first_of read.declares
 first_of_closed ns n ts = closed_if (sees m.Semicolon ts) (λ h. Closed.got) (λ h. closed_if (begins_type ns ts)
     (λ g. closed_then (good_type ns) n ts (word letter spot ∷ close m.Equal ∷ nought ∷ []) (λ more ss t rest i. (first.Declares t letter_declr spot zero_expr, First'.declares i (Declr'.declr Bounds.no_bound) (zero-whole ns more rest))) (specifiers_closed ns n ts) (λ t us.
-        closed_then (good_declr ns) n us (close m.Equal ∷ nought ∷ []) (λ more vs x rest j ss i. (first.Declares t x spot zero_expr, First'.declares i j (zero-whole ns more rest))) (declr_closed ns n us) (λ x vs.
-        closed_next (good_expect m.Equal) n vs (calm_expect m.Equal vs) (λ p ws.
-        closed_last n ws [] (λ more xs a rest w vs c us j ss i. (first.Declares t x p a, declares_first ns more ss t us x vs p xs a rest i j c w)) (expr_closed ns n ws) (λ a xs. Calm.got)))))
+    closed_then (good_declr ns) n us (close m.Equal ∷ nought ∷ []) (λ more vs x rest j ss i. (first.Declares t x spot zero_expr, First'.declares i j (zero-whole ns more rest))) (declr_closed ns n us) (λ x vs.
+    closed_next (good_expect m.Equal) n vs (calm_expect m.Equal vs) (λ p ws.
+    closed_last n ws [] (λ more xs a rest w vs c us j ss i. (first.Declares t x p a, declares_first ns more ss t us x vs p xs a rest i j c w)) (expr_closed ns n ws) (λ a xs. Calm.got)))))
     (λ g. closed_last n ts [] (λ more ss a rest i. (first.Simple a, First'.simply i)) (simple_closed ns n ts) (λ a us. Calm.got)))
 
 pub expr_before_closed : (ns : Names) (mk : Punct) (n : ℕ) (ts : List Token) → Closed Any (Some' (Condition' ns)) n ts (read.expr_before ns mk n ts)

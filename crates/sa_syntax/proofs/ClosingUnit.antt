@@ -1,6 +1,5 @@
 -- What is open in a source that goes too deep can be closed.
-use Rattle.std.proofs.Common.{◌≡◌, ℕ, zero, suc, ◌≤◌, ◌<◌, ◌+◌, List, [], ◌∷◌, ◌++◌, Bool, true, false, cond, refl, sym, ap, ◌∙◌, subst, arith, length, append_assoc, ◌⊎◌, inl, inr, Option, Some, None}
-use Rattle.std.specs.Prelude.{◌&&◌, ◌||◌}
+use Rattle.std.proofs.Common.{◌≡◌, ℕ, zero, suc, List, [], ◌∷◌, ◌++◌, true, false, cond, refl, sym, ap, ◌∙◌, subst, arith, append_assoc, Option, Some, None}
 use Rattle.sa_base.specs.declared.pos.Pos.{Pos}
 use Rattle.sa_tokens.specs.declared.keyword.Keyword.{Keyword}
 use Rattle.sa_tokens.specs.declared.keyword.Keyword.TheVariants as k
@@ -13,7 +12,6 @@ use Rattle.sa_syntax.specs.declared.decl.Name.{Name as Named}
 use Rattle.sa_syntax.specs.declared.decl.Specifiers.{Specifiers}
 use Rattle.sa_syntax.specs.declared.decl.Struct.{Struct}
 use Rattle.sa_syntax.specs.declared.decl.Start.TheVariants as start
-use Rattle.sa_syntax.specs.declared.stmt.Stmt.{Stmt}
 use Rattle.sa_syntax.specs.declared.unit.Param.{Param}
 use Rattle.sa_syntax.specs.declared.unit.Params.{Params}
 use Rattle.sa_syntax.specs.declared.unit.Params.TheVariants as given
@@ -21,25 +19,24 @@ use Rattle.sa_syntax.specs.declared.unit.Item.{Item}
 use Rattle.sa_syntax.specs.declared.unit.Item.TheVariants as top
 use Rattle.sa_syntax.specs.declared.unit.Unit.{Unit as Source}
 use Rattle.sa_syntax.specs.Trees as tree
-use Rattle.sa_syntax.specs.Words.{Names, mark, key, word, named, is_void, is_void_alone}
+use Rattle.sa_syntax.specs.Words.{Names, mark, key, word, named, is_void_alone}
 use Rattle.sa_syntax.specs.Expressions.{Specifiers', Declr', Bounds}
 use Rattle.sa_syntax.specs.Statements.{all_named, InitDeclr', InitDeclrs, Param', ParamList, Params', Starred, Nameable, Outermost, Units, Tree}
-use Rattle.sa_syntax.specs.Reading.{Parser, Read, Got, Stuck, Deep, and_then, sees, after, expect, opens_any, opens, any_name, name_at, key_at, mark_at, many, turns, pure, ◌>>=◌, ◌>>◌}
-use Rattle.sa_syntax.specs.Refusals.{GoesTooDeep, Begins}
-use Rattle.sa_syntax.specs.ReadExpr.{is_some, inside}
-use Rattle.sa_syntax.specs.ReadExpr as expr
+use Rattle.sa_syntax.specs.Reading.{Parser, Read, Got, Deep, and_then, sees, expect, opens_any, opens, name_at, key_at, turns, ◌>>=◌}
+use Rattle.sa_syntax.specs.Refusals.{GoesTooDeep}
+use Rattle.sa_syntax.specs.ReadExpr.{is_some}
 use Rattle.sa_syntax.specs.ReadStmt as read
 use Rattle.sa_syntax.specs.ReadStmt.{takes, within, list}
 use Rattle.sa_syntax.specs.declared.stmt.BlockItem.{BlockItem}
-use Rattle.sa_syntax.proofs.ReadingLemmas.{Yields, map_yields, Marked, Opened, opens_yields, IsWord, Keyed, key_at_is}
-use Rattle.sa_syntax.proofs.RoomLemmas.{Less, less_opens}
+use Rattle.sa_syntax.proofs.ReadingLemmas.{map_yields, Marked, Opened, opens_yields, IsWord, Keyed, key_at_is}
+use Rattle.sa_syntax.proofs.RoomLemmas.{less_opens}
 use Rattle.sa_syntax.proofs.StmtRoom as room
 use Rattle.sa_syntax.proofs.StmtSound as stmt_sound
 use Rattle.sa_syntax.proofs.UnitSound as sound
 use Rattle.sa_syntax.proofs.DeepLemmas.{loosen, fine_opens}
 use Rattle.sa_syntax.proofs.DeepStmt as stmt_fine
 use Rattle.sa_syntax.proofs.DeepUnit as fine
-use Rattle.sa_syntax.proofs.ClosingLemmas.{Closed, Calm, Good, Any, Some', calm_then, calm_if, calm_takes, calm_ends, closed_calm, closed_map, closed_if, closed_any, closed_then, closed_next, closed_last, closed_tail, closed_opens, list_closed, calm_expect, calm_any_name, good_any_name, stepped}
+use Rattle.sa_syntax.proofs.ClosingLemmas.{Closed, Calm, Good, Any, Some', calm_then, calm_if, calm_ends, closed_calm, closed_map, closed_if, closed_then, closed_next, closed_last, closed_tail, closed_opens, list_closed, calm_expect, calm_any_name, good_any_name, stepped}
 use Rattle.sa_syntax.proofs.ClosingExpr as closing
 use Rattle.sa_syntax.proofs.ClosingExpr.{spot, close, letter, letter_declr, int_type, good_type, all_closed, Opener, plain}
 use Rattle.sa_syntax.proofs.ClosingStmt.{specifiers_closed, init_declr_closed}
@@ -119,8 +116,8 @@ ends_closed : (ns : Names) (i : ℕ) (t : Specifiers) (x : Named) (p : Pos) (ps 
 unfolding read.ends read.body
 ends_closed ns i t x p ps vs = closed_if (sees m.Semicolon vs) (λ h. Closed.got) (λ h. closed_if (all_named ps)
     (λ g. closed_next (good_open m.OpenBrace) i vs (calm_open i m.OpenBrace vs) (λ q ws.
-        closed_last i ws (close m.CloseBrace ∷ []) (λ more xs bs rest k ws m vs j us w ss s. func_some ns more ss t us x p vs ps ws q xs bs rest g s w j m k) (outermost_closed ns i ws)
-        (λ bs xs. calm_then (calm_expect m.CloseBrace xs) (λ r ys. Calm.got)))) (λ g. Closed.stuck))
+    closed_last i ws (close m.CloseBrace ∷ []) (λ more xs bs rest k ws m vs j us w ss s. func_some ns more ss t us x p vs ps ws q xs bs rest g s w j m k) (outermost_closed ns i ws)
+    (λ bs xs. calm_then (calm_expect m.CloseBrace xs) (λ r ys. Calm.got)))) (λ g. Closed.stuck))
 
 function_closed : (ns : Names) (n : ℕ) (t : Specifiers) (us : List Token) → Closed Any (Typed ns t) n us (read.function ns n t us)
 unfolding read.function

@@ -1,13 +1,11 @@
 -- Readers answer the same up to a token, whatever follows it.
 use Rattle.std.proofs.Common.{◌≡◌, ℕ, zero, suc, ◌+◌, ◌≤◌, ◌<◌, List, [], ◌∷◌, ◌++◌, Bool, true, false, cond, refl, sym, ap, ◌∙◌, subst, length, append_assoc, length-append, arith, ◌⊎◌, inl, inr, Option, Some, None}
 use Rattle.sa_base.specs.declared.pos.Pos.{Pos}
-use Rattle.sa_tokens.specs.declared.keyword.Keyword.{Keyword}
 use Rattle.sa_tokens.specs.declared.punct.Punct.{Punct}
 use Rattle.sa_tokens.specs.declared.punct.Punct.TheVariants as m
 use Rattle.sa_tokens.specs.declared.token.Token.{Token}
-use Rattle.sa_syntax.specs.declared.decl.Name.{Name as Named}
 use Rattle.sa_syntax.specs.Words.{Names}
-use Rattle.sa_syntax.specs.Reading.{Read, Got, Stuck, Deep, Parser, and_then, is_mark, sees, after, expect, opens_any, opens, name_by, name_at, taken, any_name, unless_type, variable, key_by, key_at, mark_by, mark_at, turns, while_from, many, ◌>>=◌, ◌>>◌, pure, refuse}
+use Rattle.sa_syntax.specs.Reading.{Read, Got, Stuck, Deep, Parser, and_then, is_mark, sees, after, expect, opens_any, opens, name_at, taken, any_name, unless_type, variable, key_at, mark_at, turns, while_from, many, ◌>>=◌, ◌>>◌, pure, refuse}
 use Rattle.sa_syntax.specs.ReadStmt.{takes, list_from, list, within}
 
 -- what is left, or the tokens from the refused one, is behind what was read
@@ -113,6 +111,7 @@ fine_after {k = k} {p} one = record { shrinks = shrinks; local = local }
     shrinks : (ts : List Token) → Shrinks k ts (p (after ts))
     shrinks [] = one.shrinks []
     shrinks (t ∷ ts) = behind k (t ∷ ts) (t ∷ []) ts refl (omega arith) (one.shrinks ts)
+
     local : (b : List Token) (t : Token) (r s : List Token) → Local t r s (p (after (b ++ t ∷ r))) (p (after (b ++ t ∷ s)))
     local [] t r s = beyond r (omega arith) (one.shrinks r)
     local (c ∷ b) t r s = one.local b t r s
@@ -125,6 +124,7 @@ taking {A} {p} one none far near = record { shrinks = shrinks; local = local }
     shrinks : (ts : List Token) → Shrinks 1 ts (p ts)
     shrinks [] = subst (λ (x : Read A). Shrinks 1 [] x) (sym none) Shrinks.stuck
     shrinks (t ∷ ts) = one t ts
+
     local : (b : List Token) (t : Token) (r s : List Token) → Local t r s (p (b ++ t ∷ r)) (p (b ++ t ∷ s))
     local [] t r s = near t r s
     local (c ∷ b) t r s = far c b t r s
@@ -301,9 +301,9 @@ local_list close one fine (suc n) zero found b t r s h = absurd (omega arith)
 local_list {k = k} close one fine (suc n) (suc more) found b t r s h =
     turn _ _ k
     (λ x c g. local_cond (sees m.Comma (c ++ t ∷ r)) (sees m.Comma (c ++ t ∷ s)) (same_first (sees m.Comma) (sees_ahead m.Comma) c t r s)
-        (local_after (list_from close one n (found ++ x ∷ [])) (list_from close one more (found ++ x ∷ [])) t r s (loosen_read (shrink_list close one fine n (found ++ x ∷ []) r)) c
-            (λ d e i. let l : length (c ++ t ∷ s) ≡ length (d ∷ e ++ t ∷ s) = ap (λ z. length (z ++ t ∷ s)) i in local_list close one fine n more (found ++ x ∷ []) e t r s (omega (arith, g, h, l))))
-        ((ends_fine close (found ++ x ∷ [])).local c t r s))
+    (local_after (list_from close one n (found ++ x ∷ [])) (list_from close one more (found ++ x ∷ [])) t r s (loosen_read (shrink_list close one fine n (found ++ x ∷ []) r)) c
+    (λ d e i. let l : length (c ++ t ∷ s) ≡ length (d ∷ e ++ t ∷ s) = ap (λ z. length (z ++ t ∷ s)) i in local_list close one fine n more (found ++ x ∷ []) e t r s (omega (arith, g, h, l))))
+    ((ends_fine close (found ++ x ∷ [])).local c t r s))
     (λ x us. shrink_cond (sees m.Comma us) (shrink_after us (shrink_list close one fine n (found ++ x ∷ []) (after us))) ((ends_fine close (found ++ x ∷ [])).shrinks us))
     (fine.local b t r s) (fine.shrinks (b ++ t ∷ s))
 
@@ -346,6 +346,7 @@ fine_look {k = k} h {p} {q} one other far near second = record { shrinks = λ ts
         → Local t r s (cond (h (b ++ t ∷ r)) (p (b ++ t ∷ r)) (q (b ++ t ∷ r))) (cond (h (b ++ t ∷ s)) (p (b ++ t ∷ s)) (q (b ++ t ∷ s)))
     either b t r s (inl same) = local_cond (h (b ++ t ∷ r)) (h (b ++ t ∷ s)) same (one.local b t r s) (other.local b t r s)
     either b t r s (inr both) = beyond r (omega arith) (shrink_cond (h (b ++ t ∷ r)) both.0 both.1)
+
     local : (b : List Token) (t : Token) (r s : List Token) → Local t r s (cond (h (b ++ t ∷ r)) (p (b ++ t ∷ r)) (q (b ++ t ∷ r))) (cond (h (b ++ t ∷ s)) (p (b ++ t ∷ s)) (q (b ++ t ∷ s)))
     local [] t r s = either [] t r s (near t r s)
     local (c ∷ []) t r s = either (c ∷ []) t r s (second c t r s)

@@ -1,6 +1,6 @@
 -- Statements and sources are read the same up to a token, whatever follows it.
-use Rattle.std.proofs.Common.{◌≡◌, ℕ, zero, suc, ◌-◌, ◌≤◌, ◌<◌, ◌+◌, List, [], ◌∷◌, ◌++◌, Bool, true, false, cond, refl, sym, ap, ◌∙◌, subst, arith, length, ◌⊎◌, inl, inr, Option, Some, None}
-use Rattle.std.specs.Prelude.{◌&&◌, ◌||◌}
+use Rattle.std.proofs.Common.{◌≡◌, ℕ, zero, suc, ◌-◌, ◌<◌, List, [], ◌∷◌, ◌++◌, Bool, true, false, cond, refl, ap, arith, length, ◌⊎◌, inl, inr, Option, Some, None}
+use Rattle.std.specs.Prelude.{◌&&◌}
 use Rattle.sa_base.specs.declared.pos.Pos.{Pos}
 use Rattle.sa_tokens.specs.declared.keyword.Keyword.{Keyword}
 use Rattle.sa_tokens.specs.declared.keyword.Keyword.TheVariants as k
@@ -10,8 +10,6 @@ use Rattle.sa_tokens.specs.declared.token.Word.{Word}
 use Rattle.sa_tokens.specs.declared.token.Word.TheVariants.{Name, Number, Key, Mark}
 use Rattle.sa_tokens.specs.declared.token.Token.{Token}
 use Rattle.sa_syntax.specs.declared.decl.Name.{Name as Named}
-use Rattle.sa_syntax.specs.declared.decl.Specifiers.{Specifiers}
-use Rattle.sa_syntax.specs.declared.decl.Struct.{Struct}
 use Rattle.sa_syntax.specs.declared.decl.Declr.{Declr}
 use Rattle.sa_syntax.specs.declared.decl.Init.{Init}
 use Rattle.sa_syntax.specs.declared.decl.Init.TheVariants as init
@@ -32,19 +30,13 @@ use Rattle.sa_syntax.specs.declared.stmt.LocalStart.TheVariants as begins
 use Rattle.sa_syntax.specs.declared.stmt.Stmt.{Stmt}
 use Rattle.sa_syntax.specs.declared.stmt.Stmt.TheVariants as s
 use Rattle.sa_syntax.specs.declared.stmt.BlockItem.TheVariants as item
-use Rattle.sa_syntax.specs.declared.unit.Params.{Params}
-use Rattle.sa_syntax.specs.declared.unit.Params.TheVariants as given
-use Rattle.sa_syntax.specs.declared.unit.Item.{Item}
-use Rattle.sa_syntax.specs.declared.unit.Item.TheVariants as top
 use Rattle.sa_syntax.specs.Trees as tree
-use Rattle.sa_syntax.specs.Words.{Names, mark, key, word, begins_with_star, begins_with_else, begins_with_label, is_void_alone}
-use Rattle.sa_syntax.specs.Statements.{all_named}
-use Rattle.sa_syntax.specs.Reading.{Parser, Read, Got, Stuck, Deep, and_then, same_mark, is_mark, sees, after, expect, opens, any_name, variable, name_at, key_at, mark_at, unless_type, taken, many, turns, pure, refuse, ◌>>=◌, ◌>>◌}
-use Rattle.sa_syntax.specs.ReadExpr.{begins_type, is_some, inside}
-use Rattle.sa_syntax.specs.ReadExpr as expr
+use Rattle.sa_syntax.specs.Words.{Names, mark, word, begins_with_star, begins_with_else, begins_with_label}
+use Rattle.sa_syntax.specs.Reading.{Parser, Stuck, Deep, same_mark, sees, after, expect, opens, name_at, key_at, mark_at, turns, pure, ◌>>=◌, ◌>>◌}
+use Rattle.sa_syntax.specs.ReadExpr.{begins_type, inside}
 use Rattle.sa_syntax.specs.ReadStmt as read
 use Rattle.sa_syntax.specs.ReadStmt.{Bodies, takes, within, list}
-use Rattle.sa_syntax.proofs.DeepLemmas.{Shrinks, Local, Fine, Ahead, behind, beyond, loosen, loosen_read, shrink_then, shrink_cond, shorter, turn, local_cond, same_first, ends_fine, variable_gone, fine_then, fine_first, fine_next, fine_pure, fine_refuse, fine_ahead, fine_if, fine_after, fine_takes, fine_any_name, fine_variable, fine_expect, fine_opens, fine_opens_then, fine_many, fine_list, fine_within, fine_look, sees_ahead, name_ahead, key_ahead, mark_ahead}
+use Rattle.sa_syntax.proofs.DeepLemmas.{Shrinks, Local, Fine, Ahead, loosen, loosen_read, shrink_then, shrink_cond, turn, local_cond, same_first, ends_fine, variable_gone, fine_then, fine_first, fine_next, fine_pure, fine_refuse, fine_ahead, fine_if, fine_after, fine_takes, fine_variable, fine_expect, fine_opens_then, fine_many, fine_list, fine_within, fine_look, sees_ahead, key_ahead, mark_ahead}
 use Rattle.sa_syntax.proofs.DeepExpr as fine
 use Rattle.sa_syntax.proofs.DeepExpr.{inside_fine, type_ahead, place_ahead}
 
@@ -87,8 +79,8 @@ unfolding read.inits_from
 shrink_inits one each zero found ts = Shrinks.stuck
 shrink_inits one each (suc n) found ts =
     shrink_then {j = 0} {k = 0} 0 (omega arith) (λ i us. shrink_reader _ _ (sees m.Comma us) us
-        (shrink_then {j = 1} {k = 0} 0 (omega arith) (λ p vs. shrink_reader _ _ (sees m.CloseBrace vs) vs ((inits_end (found ++ i ∷ [])).shrinks vs) (shrink_inits one each n (found ++ i ∷ []) vs)) us ((fine_expect m.Comma).shrinks us))
-        ((inits_end (found ++ i ∷ [])).shrinks us)) ts (each.shrinks ts)
+    (shrink_then {j = 1} {k = 0} 0 (omega arith) (λ p vs. shrink_reader _ _ (sees m.CloseBrace vs) vs ((inits_end (found ++ i ∷ [])).shrinks vs) (shrink_inits one each n (found ++ i ∷ []) vs)) us ((fine_expect m.Comma).shrinks us))
+    ((inits_end (found ++ i ∷ [])).shrinks us)) ts (each.shrinks ts)
 
 local_inits : (one : Parser Init) → Fine 0 one → (n more : ℕ) (found : List Init) (b : List Token) (t : Token) (r s : List Token) → length (b ++ t ∷ s) < more
     → Local t r s (read.inits_from one n found (b ++ t ∷ r)) (read.inits_from one more found (b ++ t ∷ s))
@@ -98,15 +90,15 @@ local_inits one each (suc n) zero found b t r s h = absurd (omega arith)
 local_inits one each (suc n) (suc more) found b t r s h =
     turn _ _ 0
     (λ i c g. local_reader _ _ _ _ (sees m.Comma (c ++ t ∷ r)) (sees m.Comma (c ++ t ∷ s)) (same_first (sees m.Comma) (sees_ahead m.Comma) c t r s)
-        (turn _ _ 1
-            (λ p e f. local_reader _ _ _ _ (sees m.CloseBrace (e ++ t ∷ r)) (sees m.CloseBrace (e ++ t ∷ s)) (same_first (sees m.CloseBrace) (sees_ahead m.CloseBrace) e t r s)
-                ((inits_end (found ++ i ∷ [])).local e t r s) (local_inits one each n more (found ++ i ∷ []) e t r s (omega (arith, f, g, h))))
-            (λ p vs. shrink_reader _ _ (sees m.CloseBrace vs) vs ((inits_end (found ++ i ∷ [])).shrinks vs) (shrink_inits one each n (found ++ i ∷ []) vs))
-            ((fine_expect m.Comma).local c t r s) ((fine_expect m.Comma).shrinks (c ++ t ∷ s)))
-        ((inits_end (found ++ i ∷ [])).local c t r s))
+    (turn _ _ 1
+    (λ p e f. local_reader _ _ _ _ (sees m.CloseBrace (e ++ t ∷ r)) (sees m.CloseBrace (e ++ t ∷ s)) (same_first (sees m.CloseBrace) (sees_ahead m.CloseBrace) e t r s)
+    ((inits_end (found ++ i ∷ [])).local e t r s) (local_inits one each n more (found ++ i ∷ []) e t r s (omega (arith, f, g, h))))
+    (λ p vs. shrink_reader _ _ (sees m.CloseBrace vs) vs ((inits_end (found ++ i ∷ [])).shrinks vs) (shrink_inits one each n (found ++ i ∷ []) vs))
+    ((fine_expect m.Comma).local c t r s) ((fine_expect m.Comma).shrinks (c ++ t ∷ s)))
+    ((inits_end (found ++ i ∷ [])).local c t r s))
     (λ i us. shrink_reader _ _ (sees m.Comma us) us
-        (shrink_then {j = 1} {k = 0} 0 (omega arith) (λ p vs. shrink_reader _ _ (sees m.CloseBrace vs) vs ((inits_end (found ++ i ∷ [])).shrinks vs) (shrink_inits one each n (found ++ i ∷ []) vs)) us ((fine_expect m.Comma).shrinks us))
-        ((inits_end (found ++ i ∷ [])).shrinks us))
+    (shrink_then {j = 1} {k = 0} 0 (omega arith) (λ p vs. shrink_reader _ _ (sees m.CloseBrace vs) vs ((inits_end (found ++ i ∷ [])).shrinks vs) (shrink_inits one each n (found ++ i ∷ []) vs)) us ((fine_expect m.Comma).shrinks us))
+    ((inits_end (found ++ i ∷ [])).shrinks us))
     (each.local b t r s) (each.shrinks (b ++ t ∷ s))
 
 pub inits_fine : (one : Parser Init) → Fine 0 one → Fine 0 (λ ts. read.inits_from one (turns ts) [] ts)
@@ -149,8 +141,8 @@ module _ (ns : Names) (n : ℕ) where
   shrink_args zero p found ts = Shrinks.stuck
   shrink_args (suc left) p found ts =
       shrink_then {j = 0} {k = 0} 0 (omega arith) (λ v us. shrink_cond (sees m.Comma us)
-          (shrink_then {j = 1} {k = 0} 0 (omega arith) (λ q vs. shrink_args left q (found ++ tree.arg p v ∷ []) vs) us ((fine_expect m.Comma).shrinks us))
-          ((ends_fine m.CloseParen (found ++ tree.arg p v ∷ [])).shrinks us)) ts (arg_value_fine.shrinks ts)
+      (shrink_then {j = 1} {k = 0} 0 (omega arith) (λ q vs. shrink_args left q (found ++ tree.arg p v ∷ []) vs) us ((fine_expect m.Comma).shrinks us))
+      ((ends_fine m.CloseParen (found ++ tree.arg p v ∷ [])).shrinks us)) ts (arg_value_fine.shrinks ts)
 
   local_args : (left more : ℕ) (p : Pos) (found : List Arg) (b : List Token) (t : Token) (r s : List Token) → length (b ++ t ∷ s) < more
       → Local t r s (read.args_from ns n left p found (b ++ t ∷ r)) (read.args_from ns n more p found (b ++ t ∷ s))
@@ -160,12 +152,12 @@ module _ (ns : Names) (n : ℕ) where
   local_args (suc left) (suc more) p found b t r s h =
       turn _ _ 0
       (λ v c g. local_cond (sees m.Comma (c ++ t ∷ r)) (sees m.Comma (c ++ t ∷ s)) (same_first (sees m.Comma) (sees_ahead m.Comma) c t r s)
-          (turn _ _ 1 (λ q e f. local_args left more q (found ++ tree.arg p v ∷ []) e t r s (omega (arith, f, g, h))) (λ q vs. shrink_args left q (found ++ tree.arg p v ∷ []) vs)
-              ((fine_expect m.Comma).local c t r s) ((fine_expect m.Comma).shrinks (c ++ t ∷ s)))
-          ((ends_fine m.CloseParen (found ++ tree.arg p v ∷ [])).local c t r s))
+      (turn _ _ 1 (λ q e f. local_args left more q (found ++ tree.arg p v ∷ []) e t r s (omega (arith, f, g, h))) (λ q vs. shrink_args left q (found ++ tree.arg p v ∷ []) vs)
+      ((fine_expect m.Comma).local c t r s) ((fine_expect m.Comma).shrinks (c ++ t ∷ s)))
+      ((ends_fine m.CloseParen (found ++ tree.arg p v ∷ [])).local c t r s))
       (λ v us. shrink_cond (sees m.Comma us)
-          (shrink_then {j = 1} {k = 0} 0 (omega arith) (λ q vs. shrink_args left q (found ++ tree.arg p v ∷ []) vs) us ((fine_expect m.Comma).shrinks us))
-          ((ends_fine m.CloseParen (found ++ tree.arg p v ∷ [])).shrinks us))
+      (shrink_then {j = 1} {k = 0} 0 (omega arith) (λ q vs. shrink_args left q (found ++ tree.arg p v ∷ []) vs) us ((fine_expect m.Comma).shrinks us))
+      ((ends_fine m.CloseParen (found ++ tree.arg p v ∷ [])).shrinks us))
       (arg_value_fine.local b t r s) (arg_value_fine.shrinks (b ++ t ∷ s))
 
   pub args_fine : (p : Pos) → Fine 0 (read.args ns p n)
@@ -305,8 +297,8 @@ pub first_of_fine : (ns : Names) (n : ℕ) → Fine 0 (read.first_of ns n)
 unfolding read.first_of read.declares
 first_of_fine ns n = fine_if (sees m.Semicolon) (sees_ahead m.Semicolon) (fine_pure first.Nothing)
     (fine_if (begins_type ns) (type_ahead ns)
-        (fine_then (specifiers_fine ns n) (λ t. fine_then (declr_fine ns n) (λ x. fine_then (fine_expect m.Equal) (λ p. fine_then (expr_fine ns n) (λ a. fine_pure (first.Declares t x p a))))))
-        (fine_then (simple_fine ns n) (λ a. fine_pure (first.Simple a))))
+    (fine_then (specifiers_fine ns n) (λ t. fine_then (declr_fine ns n) (λ x. fine_then (fine_expect m.Equal) (λ p. fine_then (expr_fine ns n) (λ a. fine_pure (first.Declares t x p a))))))
+    (fine_then (simple_fine ns n) (λ a. fine_pure (first.Simple a))))
 
 pub expr_before_fine : (ns : Names) (mk : Punct) (n : ℕ) → Fine 0 (read.expr_before ns mk n)
 unfolding read.expr_before

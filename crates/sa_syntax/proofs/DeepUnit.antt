@@ -1,10 +1,8 @@
 -- Functions and sources are read the same up to a token, whatever follows it; what a refusal for depth says.
-use Rattle.std.proofs.Common.{◌≡◌, ℕ, zero, suc, ◌≤◌, ◌<◌, ◌+◌, List, [], ◌∷◌, ◌++◌, Bool, true, false, cond, refl, sym, ap, ◌∙◌, subst, arith, length, append_assoc, ◌⊎◌, inl, inr, Option, Some, None}
-use Rattle.std.specs.Prelude.{◌&&◌, ◌||◌}
+use Rattle.std.proofs.Common.{◌≡◌, ℕ, zero, suc, ◌<◌, List, [], ◌∷◌, ◌++◌, Bool, true, false, cond, refl, ap, subst, arith, length, append_assoc, ◌⊎◌, inl, inr, Option, Some, None}
 use Rattle.sa_base.specs.declared.pos.Pos.{Pos}
 use Rattle.sa_tokens.specs.declared.keyword.Keyword.{Keyword}
 use Rattle.sa_tokens.specs.declared.keyword.Keyword.TheVariants as k
-use Rattle.sa_tokens.specs.declared.punct.Punct.{Punct}
 use Rattle.sa_tokens.specs.declared.punct.Punct.TheVariants as m
 use Rattle.sa_tokens.specs.declared.token.Word.{Word}
 use Rattle.sa_tokens.specs.declared.token.Word.TheVariants.{Name, Number, Key, Mark}
@@ -12,22 +10,19 @@ use Rattle.sa_tokens.specs.declared.token.Token.{Token}
 use Rattle.sa_syntax.specs.declared.decl.Name.{Name as Named}
 use Rattle.sa_syntax.specs.declared.decl.Specifiers.{Specifiers}
 use Rattle.sa_syntax.specs.declared.decl.Struct.{Struct}
-use Rattle.sa_syntax.specs.declared.decl.Start.TheVariants as start
-use Rattle.sa_syntax.specs.declared.stmt.Stmt.{Stmt}
 use Rattle.sa_syntax.specs.declared.unit.Params.{Params}
 use Rattle.sa_syntax.specs.declared.unit.Params.TheVariants as given
 use Rattle.sa_syntax.specs.declared.unit.Item.{Item}
 use Rattle.sa_syntax.specs.declared.unit.Item.TheVariants as top
 use Rattle.sa_syntax.specs.declared.unit.Unit.{Unit as Source}
 use Rattle.sa_syntax.specs.Trees as tree
-use Rattle.sa_syntax.specs.Words.{Names, mark, key, word, is_void_alone}
+use Rattle.sa_syntax.specs.Words.{Names, key, word, is_void_alone}
 use Rattle.sa_syntax.specs.Statements.{all_named, Tree}
-use Rattle.sa_syntax.specs.Reading.{Parser, Read, Got, Stuck, Deep, and_then, sees, after, expect, opens, any_name, name_at, key_at, mark_at, many, turns, pure, ◌>>=◌, ◌>>◌}
+use Rattle.sa_syntax.specs.Reading.{Parser, Read, Got, Stuck, Deep, sees, after, expect, opens, any_name, name_at, key_at, mark_at, turns, pure, ◌>>=◌}
 use Rattle.sa_syntax.specs.ReadExpr.{is_some, inside}
-use Rattle.sa_syntax.specs.ReadExpr as expr
 use Rattle.sa_syntax.specs.ReadStmt as read
 use Rattle.sa_syntax.specs.ReadStmt.{takes, within, list}
-use Rattle.sa_syntax.proofs.DeepLemmas.{Shrinks, Local, Fine, Ahead, beyond, loosen, loosen_read, shrink_after, shrink_then, shrink_cond, shorter, turn, local_cond, same_first, any_name_gone, fine_then, fine_first, fine_next, fine_pure, fine_refuse, fine_ahead, fine_if, fine_after, fine_takes, fine_any_name, fine_expect, fine_opens, fine_opens_then, fine_many, fine_list, list_front, fine_mark_or, fine_within, fine_look, sees_ahead, name_ahead, key_ahead, mark_ahead}
+use Rattle.sa_syntax.proofs.DeepLemmas.{Shrinks, Local, Fine, Ahead, loosen, loosen_read, shrink_then, shrink_cond, turn, local_cond, same_first, any_name_gone, fine_then, fine_first, fine_next, fine_pure, fine_refuse, fine_ahead, fine_if, fine_after, fine_takes, fine_any_name, fine_expect, fine_opens_then, fine_list, list_front, fine_mark_or, fine_within, fine_look, sees_ahead, name_ahead, key_ahead}
 use Rattle.sa_syntax.proofs.DeepExpr as expr_fine
 use Rattle.sa_syntax.proofs.DeepExpr.{inside_fine, place_ahead}
 use Rattle.sa_syntax.proofs.DeepStmt as fine
@@ -87,8 +82,10 @@ module _ (ns : Names) (n : ℕ) where
   void_near : (w : Word) (p : Pos) (r s : List Token) → let t : Token = record { word = w; pos = p } in (is_void_alone (t ∷ r) ≡ is_void_alone (t ∷ s))
       ⊎ (Shrinks 0 r (Got given.Void (after (after (t ∷ r)))) × Shrinks 0 r ((list m.CloseParen (read.param ns n) >>= (λ ps. pure (given.List ps))) (t ∷ r)))
   unfolding is_void_alone
-  void_near (Key k.Void) p r s = inr (void_gone r,
-      shrink_then {j = 0} {k = 0} 0 (omega arith) (λ ps. (fine_pure (given.List ps)).shrinks) r (list_front m.CloseParen (read.param ns n) param_fine (key k.Void p ∷ r) r (void_param p r)))
+  void_near (Key k.Void) p r s = inr (
+    void_gone r,
+    shrink_then {j = 0} {k = 0} 0 (omega arith) (λ ps. (fine_pure (given.List ps)).shrinks) r (list_front m.CloseParen (read.param ns n) param_fine (key k.Void p ∷ r) r (void_param p r)),
+  )
   void_near w p r s = inl refl
 
   pub params_fine : Fine 0 (read.params ns n)
