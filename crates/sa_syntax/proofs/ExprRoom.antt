@@ -106,7 +106,7 @@ module _ (ns : Names) (n more : ℕ) (inner wide : Inner) (room : n ≤ more) (d
   base_by_room (Some w) ts = Less.same
   base_by_room None ts = type_name_room ts
 
-  pub base_room : (ts : List Token) → Less (read.base ns n inner ts) (read.base ns more wide ts)
+  base_room : (ts : List Token) → Less (read.base ns n inner ts) (read.base ns more wide ts)
   unfolding read.base
   base_room ts = base_by_room (key_at ts) ts
 

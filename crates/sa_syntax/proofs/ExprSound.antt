@@ -116,7 +116,7 @@ module _ (ns : Names) (n : ℕ) (inner : Inner) (sound : IsSound ns n inner) whe
       → (ss : List Step) (xs : List Token) → Steps ns n ws ss xs → Steps ns n ts (step.Index p a ∷ ss) xs
   index_from _ _ _ _ a _ _ _ Opened.opened w Marked.marked ss xs more = Steps.index w more
 
-  pub index_sound : (ts : List Token) → Yields (λ s us. (ss : List Step) (vs : List Token) → Steps ns n us ss vs → Steps ns n ts (s ∷ ss) vs) (read.index ns n inner ts)
+  index_sound : (ts : List Token) → Yields (λ s us. (ss : List Step) (vs : List Token) → Steps ns n us ss vs → Steps ns n ts (s ∷ ss) vs) (read.index ns n inner ts)
   unfolding read.index
   index_sound ts =
       then_yields (opens_yields n m.OpenBracket ts) (λ p us o.
@@ -194,7 +194,7 @@ module _ (ns : Names) (n : ℕ) (inner : Inner) (sound : IsSound ns n inner) whe
       then_yields (expect_yields m.CloseBracket vs) (λ q ws c.
       Yields.got (bound_from n ts p us a vs q ws o w c))))
 
-  pub bounds_sound : (ts : List Token) → Yields (λ bs us. Bounds ns n ts bs us) (many (sees m.OpenBracket) (read.a_bound ns n inner) ts)
+  bounds_sound : (ts : List Token) → Yields (λ bs us. Bounds ns n ts bs us) (many (sees m.OpenBracket) (read.a_bound ns n inner) ts)
   bounds_sound = many_yields (λ ts bs us. Bounds ns n ts bs us) (sees m.OpenBracket) (read.a_bound ns n inner) (λ us h. Bounds.no_bound) (λ ts h. a_bound_sound ts)
 
   declr_from : (ts : List Token) (x : Named) (us : List Token) (bs : List Bound) (vs : List Token) → IsWord ts x us → Bounds ns n us bs vs → Declr' ns n ts (tree.declr x bs) vs
@@ -205,7 +205,7 @@ module _ (ns : Names) (n : ℕ) (inner : Inner) (sound : IsSound ns n inner) whe
   declr_sound ts = then_yields (any_name_yields ts) (λ x us i. then_yields (bounds_sound us) (λ bs vs more. Yields.got (declr_from ts x us bs vs i more)))
 
   -- more of them, behind the first
-  abbrev pub MoreDeclrs : List Token → List Declr → List Token → Type 0
+  abbrev MoreDeclrs : List Token → List Declr → List Token → Type 0
   MoreDeclrs ts ds us = (ss : List Token) (d : Declr) → Declr' ns n ss d ts → Declrs ns n ss (d ∷ ds) us
 
   next_from : (ts : List Token) (p : Pos) (us : List Token) (x : Declr) (vs : List Token) → Marked m.Comma ts p us → Declr' ns n us x vs → (ds : List Declr) (ws : List Token) → MoreDeclrs vs ds ws → MoreDeclrs ts (x ∷ ds) ws
@@ -215,7 +215,7 @@ module _ (ns : Names) (n : ℕ) (inner : Inner) (sound : IsSound ns n inner) whe
   unfolding read.next_declr
   next_declr_sound ts = then_yields (expect_yields m.Comma ts) (λ p us c. map_yields (λ x vs i. next_from ts p us x vs c i) (declr_sound us))
 
-  pub more_declrs_sound : (ts : List Token) → Yields (λ ds us. MoreDeclrs ts ds us) (many (sees m.Comma) (read.next_declr ns n inner) ts)
+  more_declrs_sound : (ts : List Token) → Yields (λ ds us. MoreDeclrs ts ds us) (many (sees m.Comma) (read.next_declr ns n inner) ts)
   more_declrs_sound = many_yields MoreDeclrs (sees m.Comma) (read.next_declr ns n inner) (λ us h ss d first. Declrs.last_declr first) (λ ts h. next_declr_sound ts)
 
   pub declrs_sound : (ts : List Token) → Yields (λ ds us. SomeDeclrs ns n ts ds us) (read.declrs ns n inner ts)

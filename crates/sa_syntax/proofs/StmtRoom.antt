@@ -35,7 +35,7 @@ use Rattle.sa_syntax.proofs.RoomLemmas.{Less, less_then, less_if, less_if_reader
 use Rattle.sa_syntax.proofs.ExprRoom.{whole_less, place_less, specifiers_less, declr_less}
 
 -- ---- initialisers
-pub inits_from_room : (one wide : Parser Init) → ((ts : List Token) → Less (one ts) (wide ts)) → (left : ℕ) (found : List Init) (ts : List Token) → Less (read.inits_from one left found ts) (read.inits_from wide left found ts)
+inits_from_room : (one wide : Parser Init) → ((ts : List Token) → Less (one ts) (wide ts)) → (left : ℕ) (found : List Init) (ts : List Token) → Less (read.inits_from one left found ts) (read.inits_from wide left found ts)
 unfolding read.inits_from
 inits_from_room one wide each zero found ts = Less.same
 inits_from_room one wide each (suc left) found ts =
@@ -45,11 +45,11 @@ inits_from_room one wide each (suc left) found ts =
     less_if_reader _ _ _ _ (sees m.CloseBrace vs) vs Less.same (inits_from_room one wide each left (found ++ i ∷ []) vs)))
     Less.same)
 
-pub braces_room : (n more : ℕ) → n ≤ more → (one wide : Parser Init) → ((ts : List Token) → Less (one ts) (wide ts)) → (ts : List Token) → Less (read.braces n one ts) (read.braces more wide ts)
+braces_room : (n more : ℕ) → n ≤ more → (one wide : Parser Init) → ((ts : List Token) → Less (one ts) (wide ts)) → (ts : List Token) → Less (read.braces n one ts) (read.braces more wide ts)
 unfolding read.braces
 braces_room n more h one wide each ts = less_then (less_opens n more h m.OpenBrace ts) (λ p us. less_then (inits_from_room one wide each (turns us) [] us) (λ is vs. Less.same))
 
-pub init_by_room : (ns : Names) (n more : ℕ) → n ≤ more → (one wide : Parser Init) → ((ts : List Token) → Less (one ts) (wide ts)) → (ts : List Token) → Less (read.init_by ns n one ts) (read.init_by ns more wide ts)
+init_by_room : (ns : Names) (n more : ℕ) → n ≤ more → (one wide : Parser Init) → ((ts : List Token) → Less (one ts) (wide ts)) → (ts : List Token) → Less (read.init_by ns n one ts) (read.init_by ns more wide ts)
 unfolding read.init_by
 init_by_room ns n more h one wide each ts = less_if (sees m.OpenBrace ts) (braces_room n more h one wide each ts) (less_then (whole_less ns n more h ts) (λ a us. Less.same))
 
@@ -74,18 +74,18 @@ module _ (ns : Names) (n more : ℕ) (room : n ≤ more) where
       (less_then (Less.same {r = expect m.Ampersand ts}) (λ p us. less_then (place_less ns n more room us) (λ x vs. Less.same)))
       (less_then (whole_less ns n more room ts) (λ a us. Less.same))
 
-  pub args_from_room : (left : ℕ) (p : Pos) (found : List Arg) (ts : List Token) → Less (read.args_from ns n left p found ts) (read.args_from ns more left p found ts)
+  args_from_room : (left : ℕ) (p : Pos) (found : List Arg) (ts : List Token) → Less (read.args_from ns n left p found ts) (read.args_from ns more left p found ts)
   unfolding read.args_from
   args_from_room zero p found ts = Less.same
   args_from_room (suc left) p found ts =
       less_then (arg_value_room ts) (λ v us.
       less_if (sees m.Comma us) (less_then (Less.same {r = expect m.Comma us}) (λ q vs. args_from_room left q (found ++ tree.arg p v ∷ []) vs)) Less.same)
 
-pub args_room : (ns : Names) (p : Pos) (n more : ℕ) → n ≤ more → (ts : List Token) → Less (read.args ns p n ts) (read.args ns p more ts)
+args_room : (ns : Names) (p : Pos) (n more : ℕ) → n ≤ more → (ts : List Token) → Less (read.args ns p n ts) (read.args ns p more ts)
 unfolding read.args
 args_room ns p n more room ts = less_if (sees m.CloseParen ts) Less.same (args_from_room ns n more room (turns ts) p [] ts)
 
-pub double_bracket_room : {A : Type 0} (n more : ℕ) → n ≤ more → (one wide : Parser A) → ((ts : List Token) → Less (one ts) (wide ts)) → (ts : List Token) → Less (read.double_bracket n one ts) (read.double_bracket more wide ts)
+double_bracket_room : {A : Type 0} (n more : ℕ) → n ≤ more → (one wide : Parser A) → ((ts : List Token) → Less (one ts) (wide ts)) → (ts : List Token) → Less (read.double_bracket n one ts) (read.double_bracket more wide ts)
 unfolding read.double_bracket
 double_bracket_room n more room one wide each ts =
     less_then (less_opens n more room m.OpenParen ts) (λ p us.
@@ -101,32 +101,32 @@ module _ (ns : Names) (n more : ℕ) (room : n ≤ more) where
       less_then (less_within (read.args ns p) (args_room ns p) n more room vs) (λ xs ws. Less.same)))
 
   -- ---- assignments
-  pub before_room : (t : Turn) (ts : List Token) → Less (read.before ns n t ts) (read.before ns more t ts)
+  before_room : (t : Turn) (ts : List Token) → Less (read.before ns n t ts) (read.before ns more t ts)
   unfolding read.before
   before_room t ts = less_then (Less.same {r = takes ts}) (λ p us. less_then (place_less ns n more room us) (λ x vs. Less.same))
 
-  pub compounded_room : (x : Place) (o : Option Compound) (ts : List Token) → Less (read.compounded ns n x o ts) (read.compounded ns more x o ts)
+  compounded_room : (x : Place) (o : Option Compound) (ts : List Token) → Less (read.compounded ns n x o ts) (read.compounded ns more x o ts)
   compounded_room x None ts = Less.same
   compounded_room x (Some op) ts = less_then (Less.same {r = takes ts}) (λ p us. less_then (whole_less ns n more room us) (λ a vs. Less.same))
 
-  pub turned_room : (star : Bool) (x : Place) (o : Option Turn) (ts : List Token) → Less (read.turned ns n star x o ts) (read.turned ns more star x o ts)
+  turned_room : (star : Bool) (x : Place) (o : Option Turn) (ts : List Token) → Less (read.turned ns n star x o ts) (read.turned ns more star x o ts)
   turned_room star x None ts = compounded_room x (read.compound_in (mark_at ts)) ts
   turned_room star x (Some t) ts = Less.same
 
-  pub assigned_room : (star : Bool) (x : Place) (ts : List Token) → Less (read.assigned ns n star x ts) (read.assigned ns more star x ts)
+  assigned_room : (star : Bool) (x : Place) (ts : List Token) → Less (read.assigned ns n star x ts) (read.assigned ns more star x ts)
   unfolding read.assigned
   assigned_room star x ts = less_if (sees m.Equal ts) (less_then (Less.same {r = expect m.Equal ts}) (λ p us. less_then (whole_less ns n more room us) (λ a vs. Less.same))) (turned_room star x (read.turn_in (mark_at ts)) ts)
 
-  pub simple_by_room : (o : Option Turn) (ts : List Token) → Less (read.simple_by ns n o ts) (read.simple_by ns more o ts)
+  simple_by_room : (o : Option Turn) (ts : List Token) → Less (read.simple_by ns n o ts) (read.simple_by ns more o ts)
   simple_by_room (Some t) ts = before_room t ts
   simple_by_room None ts = less_then (place_less ns n more room ts) (λ x us. assigned_room (begins_with_star ts) x us)
 
-  pub simple_room : (ts : List Token) → Less (read.simple ns n ts) (read.simple ns more ts)
+  simple_room : (ts : List Token) → Less (read.simple ns n ts) (read.simple ns more ts)
   unfolding read.simple
   simple_room ts = simple_by_room (read.turn_in (mark_at ts)) ts
 
   -- ---- locals
-  pub local_start_room : (x : Declr) (ts : List Token) → Less (read.local_start ns n x ts) (read.local_start ns more x ts)
+  local_start_room : (x : Declr) (ts : List Token) → Less (read.local_start ns n x ts) (read.local_start ns more x ts)
   unfolding read.local_start
   local_start_room x ts =
       less_then (Less.same {r = expect m.Equal ts}) (λ p us.
@@ -141,11 +141,11 @@ module _ (ns : Names) (n more : ℕ) (room : n ≤ more) where
   local_room ts = less_then (specifiers_less ns n more room ts) (λ t us. less_then (less_list m.Semicolon (read.local_declr ns n) (read.local_declr ns more) local_declr_room us) (λ xs vs. Less.same))
 
   -- ---- directives
-  pub bare_room : (x : Directive) (ts : List Token) → Less (read.bare n x ts) (read.bare more x ts)
+  bare_room : (x : Directive) (ts : List Token) → Less (read.bare n x ts) (read.bare more x ts)
   unfolding read.bare
   bare_room x ts = less_then (Less.same {r = takes ts}) (λ p us. double_bracket_room n more room (λ vs. Got x vs) (λ vs. Got x vs) (λ vs. Less.same) us)
 
-  pub with_expr_room : (f : Expr → Directive) (ts : List Token) → Less (read.with_expr ns n f ts) (read.with_expr ns more f ts)
+  with_expr_room : (f : Expr → Directive) (ts : List Token) → Less (read.with_expr ns n f ts) (read.with_expr ns more f ts)
   unfolding read.with_expr
   with_expr_room f ts =
       less_then
@@ -154,7 +154,7 @@ module _ (ns : Names) (n more : ℕ) (room : n ≤ more) where
       (less_within (read.within (λ j. read.expr ns j)) (less_within (λ j. read.expr ns j) (whole_less ns)) n more room) us))
       (λ a vs. Less.same)
 
-  pub ended_room : (p wide : Parser Directive) (ts : List Token) → Less (p ts) (wide ts) → Less (read.ended p ts) (read.ended wide ts)
+  ended_room : (p wide : Parser Directive) (ts : List Token) → Less (p ts) (wide ts) → Less (read.ended p ts) (read.ended wide ts)
   unfolding read.ended
   ended_room p wide ts one = less_then one (λ x us. Less.same)
 
@@ -163,7 +163,7 @@ module _ (ns : Names) (n more : ℕ) (room : n ≤ more) where
   unfolding read.condition
   condition_room ts = less_then (less_opens n more room m.OpenParen ts) (λ p us. less_then (less_within (read.expr ns) (whole_less ns) n more room us) (λ c vs. Less.same))
 
-  pub declares_room : (ts : List Token) → Less (read.declares ns n ts) (read.declares ns more ts)
+  declares_room : (ts : List Token) → Less (read.declares ns n ts) (read.declares ns more ts)
   unfolding read.declares
   declares_room ts =
       less_then (specifiers_less ns n more room ts) (λ t us.
@@ -184,11 +184,11 @@ unfolding read.simple_before
 simple_before_room ns mk n more room ts = less_if (sees mk ts) Less.same (less_then (simple_room ns n more room ts) (λ a us. Less.same))
 
 module _ (ns : Names) (n more : ℕ) (room : n ≤ more) where
-  pub case_room : (ts : List Token) → Less (read.case ns n ts) (read.case ns more ts)
+  case_room : (ts : List Token) → Less (read.case ns n ts) (read.case ns more ts)
   unfolding read.case
   case_room ts = less_then (Less.same {r = takes ts}) (λ p us. less_then (whole_less ns n more room us) (λ a vs. Less.same))
 
-  pub label_by_room : (o : Option Keyword) (ts : List Token) → Less (read.label_by ns n o ts) (read.label_by ns more o ts)
+  label_by_room : (o : Option Keyword) (ts : List Token) → Less (read.label_by ns n o ts) (read.label_by ns more o ts)
   label_by_room (Some k.Case) ts = case_room ts
   label_by_room o ts = Less.same
 
@@ -203,31 +203,31 @@ pub record IsRoomier (bodies wide : Bodies) : Type 0 where
   pub groups : (ts : List Token) → Less (bodies.groups ts) (wide.groups ts)
 
 module _ (ns : Names) (n more : ℕ) (bodies wide : Bodies) (room : n ≤ more) (deeper : IsRoomier bodies wide) where
-  pub block_room : (ts : List Token) → Less (read.block ns n bodies ts) (read.block ns more wide ts)
+  block_room : (ts : List Token) → Less (read.block ns n bodies ts) (read.block ns more wide ts)
   unfolding read.block
   block_room ts = less_then (less_opens n more room m.OpenBrace ts) (λ p us. less_then (deeper.items us) (λ is vs. Less.same))
 
-  pub call_stmt_room : (ts : List Token) → Less (read.call_stmt ns n bodies ts) (read.call_stmt ns more wide ts)
+  call_stmt_room : (ts : List Token) → Less (read.call_stmt ns n bodies ts) (read.call_stmt ns more wide ts)
   unfolding read.call_stmt
   call_stmt_room ts = less_then (call_room ns n more room ts) (λ c us. Less.same)
 
-  pub gives_room : (x : Place) (ts : List Token) → Less (read.gives ns n bodies x ts) (read.gives ns more wide x ts)
+  gives_room : (x : Place) (ts : List Token) → Less (read.gives ns n bodies x ts) (read.gives ns more wide x ts)
   unfolding read.gives
   gives_room x ts = less_then (Less.same {r = expect m.Equal ts}) (λ p us. less_then (call_room ns n more room us) (λ c vs. Less.same))
 
-  pub simple_ended_room : (p q : Parser Simple) (ts : List Token) → Less (p ts) (q ts) → Less (read.simple_ended ns n bodies p ts) (read.simple_ended ns more wide q ts)
+  simple_ended_room : (p q : Parser Simple) (ts : List Token) → Less (p ts) (q ts) → Less (read.simple_ended ns n bodies p ts) (read.simple_ended ns more wide q ts)
   unfolding read.simple_ended
   simple_ended_room p q ts one = less_then one (λ a us. Less.same)
 
-  pub assigned_stmt_room : (star : Bool) (x : Place) (ts : List Token) → Less (read.assigned_stmt ns n bodies star x ts) (read.assigned_stmt ns more wide star x ts)
+  assigned_stmt_room : (star : Bool) (x : Place) (ts : List Token) → Less (read.assigned_stmt ns n bodies star x ts) (read.assigned_stmt ns more wide star x ts)
   unfolding read.assigned_stmt
   assigned_stmt_room star x ts = less_if (sees m.Equal ts && read.sees_call ns (after ts)) (gives_room x ts) (simple_ended_room (read.assigned ns n star x) (read.assigned ns more star x) ts (assigned_room ns n more room star x ts))
 
-  pub placed_room : (ts : List Token) → Less (read.placed ns n bodies ts) (read.placed ns more wide ts)
+  placed_room : (ts : List Token) → Less (read.placed ns n bodies ts) (read.placed ns more wide ts)
   unfolding read.placed
   placed_room ts = less_if (read.sees_call ns ts) (call_stmt_room ts) (less_then (place_less ns n more room ts) (λ x us. assigned_stmt_room (begins_with_star ts) x us))
 
-  pub if_stmt_room : (ts : List Token) → Less (read.if_stmt ns n bodies ts) (read.if_stmt ns more wide ts)
+  if_stmt_room : (ts : List Token) → Less (read.if_stmt ns n bodies ts) (read.if_stmt ns more wide ts)
   unfolding read.if_stmt
   if_stmt_room ts =
       less_then (Less.same {r = takes ts}) (λ p us.
@@ -235,14 +235,14 @@ module _ (ns : Names) (n more : ℕ) (bodies wide : Bodies) (room : n ≤ more) 
       less_then (deeper.stmt vs) (λ a ws.
       less_if (begins_with_else ws) (less_then (Less.same {r = takes ws}) (λ q xs. less_then (deeper.stmt xs) (λ o ys. Less.same))) Less.same)))
 
-  pub while_stmt_room : (ts : List Token) → Less (read.while_stmt ns n bodies ts) (read.while_stmt ns more wide ts)
+  while_stmt_room : (ts : List Token) → Less (read.while_stmt ns n bodies ts) (read.while_stmt ns more wide ts)
   unfolding read.while_stmt
   while_stmt_room ts =
       less_then (Less.same {r = takes ts}) (λ p us.
       less_then (condition_room ns n more room us) (λ c vs.
       less_then (deeper.stmt vs) (λ a ws. Less.same)))
 
-  pub while_by_room : (o : Option Keyword) (ts : List Token) → Less (read.while_by ns n bodies o ts) (read.while_by ns more wide o ts)
+  while_by_room : (o : Option Keyword) (ts : List Token) → Less (read.while_by ns n bodies o ts) (read.while_by ns more wide o ts)
   while_by_room (Some k.While) ts = Less.same
   while_by_room o ts = Less.same
 
@@ -250,7 +250,7 @@ module _ (ns : Names) (n more : ℕ) (bodies wide : Bodies) (room : n ≤ more) 
   unfolding read.expect_while
   expect_while_room ts = while_by_room (key_at ts) ts
 
-  pub do_stmt_room : (ts : List Token) → Less (read.do_stmt ns n bodies ts) (read.do_stmt ns more wide ts)
+  do_stmt_room : (ts : List Token) → Less (read.do_stmt ns n bodies ts) (read.do_stmt ns more wide ts)
   unfolding read.do_stmt
   do_stmt_room ts =
       less_then (Less.same {r = takes ts}) (λ p us.
@@ -258,7 +258,7 @@ module _ (ns : Names) (n more : ℕ) (bodies wide : Bodies) (room : n ≤ more) 
       less_then (expect_while_room vs) (λ q ws.
       less_then (condition_room ns n more room ws) (λ c xs. Less.same))))
 
-  pub for_stmt_room : (ts : List Token) → Less (read.for_stmt ns n bodies ts) (read.for_stmt ns more wide ts)
+  for_stmt_room : (ts : List Token) → Less (read.for_stmt ns n bodies ts) (read.for_stmt ns more wide ts)
   unfolding read.for_stmt
   for_stmt_room ts =
       less_then (Less.same {r = takes ts}) (λ p t2.
@@ -271,7 +271,7 @@ module _ (ns : Names) (n more : ℕ) (bodies wide : Bodies) (room : n ≤ more) 
       less_then (Less.same {r = expect m.CloseParen t8}) (λ u t9.
       less_then (deeper.stmt t9) (λ a end. Less.same)))))))))
 
-  pub switch_stmt_room : (ts : List Token) → Less (read.switch_stmt ns n bodies ts) (read.switch_stmt ns more wide ts)
+  switch_stmt_room : (ts : List Token) → Less (read.switch_stmt ns n bodies ts) (read.switch_stmt ns more wide ts)
   unfolding read.switch_stmt
   switch_stmt_room ts =
       less_then (Less.same {r = takes ts}) (λ p us.
@@ -279,26 +279,26 @@ module _ (ns : Names) (n more : ℕ) (bodies wide : Bodies) (room : n ≤ more) 
       less_then (less_opens n more room m.OpenBrace vs) (λ q ws.
       less_then (deeper.groups ws) (λ gs xs. Less.same))))
 
-  pub empty_room : (ts : List Token) → Less (read.empty ns n bodies ts) (read.empty ns more wide ts)
+  empty_room : (ts : List Token) → Less (read.empty ns n bodies ts) (read.empty ns more wide ts)
   unfolding read.empty
   empty_room ts = Less.same
 
-  pub break_room : (ts : List Token) → Less (read.break ns n bodies ts) (read.break ns more wide ts)
+  break_room : (ts : List Token) → Less (read.break ns n bodies ts) (read.break ns more wide ts)
   unfolding read.break
   break_room ts = Less.same
 
-  pub return_room : (ts : List Token) → Less (read.return ns n bodies ts) (read.return ns more wide ts)
+  return_room : (ts : List Token) → Less (read.return ns n bodies ts) (read.return ns more wide ts)
   unfolding read.return
   return_room ts = less_then (Less.same {r = takes ts}) (λ p us. less_then (expr_before_room ns m.Semicolon n more room us) (λ c vs. Less.same))
 
-  pub mark_stmt_room : (o : Option Punct) (ts : List Token) → Less (read.mark_stmt ns n bodies o ts) (read.mark_stmt ns more wide o ts)
+  mark_stmt_room : (o : Option Punct) (ts : List Token) → Less (read.mark_stmt ns n bodies o ts) (read.mark_stmt ns more wide o ts)
   mark_stmt_room (Some m.OpenBrace) ts = block_room ts
   mark_stmt_room (Some m.Semicolon) ts = empty_room ts
   mark_stmt_room (Some m.PlusPlus) ts = simple_ended_room (read.simple ns n) (read.simple ns more) ts (simple_room ns n more room ts)
   mark_stmt_room (Some m.MinusMinus) ts = simple_ended_room (read.simple ns n) (read.simple ns more) ts (simple_room ns n more room ts)
   mark_stmt_room o ts = placed_room ts
 
-  pub stmt_by_room : (o : Option Keyword) (ts : List Token) → Less (read.stmt_by ns n bodies o ts) (read.stmt_by ns more wide o ts)
+  stmt_by_room : (o : Option Keyword) (ts : List Token) → Less (read.stmt_by ns n bodies o ts) (read.stmt_by ns more wide o ts)
   stmt_by_room None ts = mark_stmt_room (mark_at ts) ts
   stmt_by_room (Some k.If) ts = if_stmt_room ts
   stmt_by_room (Some k.While) ts = while_stmt_room ts
@@ -313,7 +313,7 @@ module _ (ns : Names) (n more : ℕ) (bodies wide : Bodies) (room : n ≤ more) 
   stmt_by_room (Some k.Assert) ts = ended_room ns n more room (read.with_expr ns n d.Assert) (read.with_expr ns more d.Assert) ts (with_expr_room ns n more room d.Assert ts)
   stmt_by_room (Some w) ts = Less.same
 
-  pub stmt_room : (ts : List Token) → Less (read.stmt ns n bodies ts) (read.stmt ns more wide ts)
+  stmt_room : (ts : List Token) → Less (read.stmt ns n bodies ts) (read.stmt ns more wide ts)
   unfolding read.stmt
   stmt_room ts = stmt_by_room (key_at ts) ts
 
@@ -322,7 +322,7 @@ module _ (ns : Names) (n more : ℕ) (bodies wide : Bodies) (room : n ≤ more) 
   unfolding read.block_item
   block_item_room one other each ts = less_if (begins_type ns ts) (less_then (local_room ns n more room ts) (λ l us. Less.same)) (less_then (each ts) (λ a us. Less.same))
 
-  pub block_items_room : (one other : Parser Stmt) → ((ts : List Token) → Less (one ts) (other ts)) → (ts : List Token) → Less (read.block_items ns n bodies one ts) (read.block_items ns more wide other ts)
+  block_items_room : (one other : Parser Stmt) → ((ts : List Token) → Less (one ts) (other ts)) → (ts : List Token) → Less (read.block_items ns n bodies one ts) (read.block_items ns more wide other ts)
   unfolding read.block_items
   block_items_room one other each = less_many read.no_close (read.block_item ns n bodies one) (read.block_item ns more wide other) (block_item_room one other each)
 
@@ -333,7 +333,7 @@ module _ (ns : Names) (n more : ℕ) (bodies wide : Bodies) (room : n ≤ more) 
       less_then (less_many begins_with_label (read.a_label ns n) (read.a_label ns more) (a_label_room ns n more room) us) (λ ls vs.
       less_then (less_many (read.goes_on ns n bodies) bodies.stmt wide.stmt deeper.stmt vs) (λ ss ws. Less.same)))
 
-  pub groups_room : (ts : List Token) → Less (read.groups ns n bodies ts) (read.groups ns more wide ts)
+  groups_room : (ts : List Token) → Less (read.groups ns n bodies ts) (read.groups ns more wide ts)
   unfolding read.groups
   groups_room = less_many begins_with_label (read.a_group ns n bodies) (read.a_group ns more wide) a_group_room
 
@@ -438,7 +438,7 @@ params_room ns n more room ts = less_if (sees m.CloseParen ts) Less.same
     (less_if (is_void_alone ts) Less.same (less_then (less_list m.CloseParen (read.param ns n) (read.param ns more) (param_room ns n more room) ts) (λ ps us. Less.same)))
 
 module _ (ns : Names) (n more : ℕ) (room : n ≤ more) where
-  pub function_room : (t : Specifiers) (ts : List Token) → Less (read.function ns n t ts) (read.function ns more t ts)
+  function_room : (t : Specifiers) (ts : List Token) → Less (read.function ns n t ts) (read.function ns more t ts)
   unfolding read.function read.ends read.body
   function_room t t1 =
       less_then (Less.same {r = any_name t1}) (λ x t2.
@@ -450,27 +450,27 @@ module _ (ns : Names) (n more : ℕ) (room : n ≤ more) where
       less_then (less_within (read.outermost ns) (outermost_less ns) n more room t5) (λ bs t6. Less.same)))
       Less.same))))
 
-  pub global_room : (t : Specifiers) (ts : List Token) → Less (read.global ns n t ts) (read.global ns more t ts)
+  global_room : (t : Specifiers) (ts : List Token) → Less (read.global ns n t ts) (read.global ns more t ts)
   unfolding read.global
   global_room t ts = less_then (less_list m.Semicolon (read.init_declr ns n) (read.init_declr ns more) (init_declr_room ns n more room) ts) (λ xs us. Less.same)
 
-  pub named_item_room : (t : Specifiers) (ts : List Token) → Less (read.named_item ns n t ts) (read.named_item ns more t ts)
+  named_item_room : (t : Specifiers) (ts : List Token) → Less (read.named_item ns n t ts) (read.named_item ns more t ts)
   unfolding read.named_item
   named_item_room t ts = less_if (read.sees_function ts) (function_room t ts) (global_room t ts)
 
-  pub typedef_room : (ts : List Token) → Less (read.typedef ns n ts) (read.typedef ns more ts)
+  typedef_room : (ts : List Token) → Less (read.typedef ns n ts) (read.typedef ns more ts)
   unfolding read.typedef
   typedef_room ts = less_then (Less.same {r = takes ts}) (λ p us. less_then (specifiers_less ns n more room us) (λ t vs. Less.same))
 
-  pub struct_or_room : (p : Pos) (t : Specifiers) (o : Option Struct) (ts : List Token) → Less (read.struct_or ns n p t o ts) (read.struct_or ns more p t o ts)
+  struct_or_room : (p : Pos) (t : Specifiers) (o : Option Struct) (ts : List Token) → Less (read.struct_or ns n p t o ts) (read.struct_or ns more p t o ts)
   struct_or_room p t None ts = named_item_room t ts
   struct_or_room p t (Some x) ts = less_if (sees m.Semicolon ts) Less.same (named_item_room t ts)
 
-  pub declared_room : (ts : List Token) → Less (read.declared ns n ts) (read.declared ns more ts)
+  declared_room : (ts : List Token) → Less (read.declared ns n ts) (read.declared ns more ts)
   unfolding read.declared
   declared_room ts = less_then (specifiers_less ns n more room ts) (λ t us. struct_or_room (tree.pos_of ts) t (read.struct_of t) us)
 
-  pub item_by_room : (o : Option Keyword) (ts : List Token) → Less (read.item_by ns n o ts) (read.item_by ns more o ts)
+  item_by_room : (o : Option Keyword) (ts : List Token) → Less (read.item_by ns n o ts) (read.item_by ns more o ts)
   item_by_room (Some k.Typedef) ts = typedef_room ts
   item_by_room o ts = declared_room ts
 
@@ -479,13 +479,13 @@ module _ (ns : Names) (n more : ℕ) (room : n ≤ more) where
   an_item_room ts = item_by_room (key_at ts) ts
 
 -- ---- sources
-pub items_from_room : (n more : ℕ) → n ≤ more → (left : ℕ) (ns : Names) (found : List Item) (ts : List Token) → Less (read.items_from n left ns found ts) (read.items_from more left ns found ts)
+items_from_room : (n more : ℕ) → n ≤ more → (left : ℕ) (ns : Names) (found : List Item) (ts : List Token) → Less (read.items_from n left ns found ts) (read.items_from more left ns found ts)
 unfolding read.items_from
 items_from_room n more room zero ns found ts = Less.same
 items_from_room n more room (suc left) ns found [] = Less.same
 items_from_room n more room (suc left) ns found (t ∷ ts) = less_then (an_item_room ns n more room (t ∷ ts)) (λ x us. items_from_room n more room left (read.names_after ns x) (found ++ x ∷ []) us)
 
-pub source_room : (n more : ℕ) → n ≤ more → (ts : List Token) → Less (read.source n ts) (read.source more ts)
+source_room : (n more : ℕ) → n ≤ more → (ts : List Token) → Less (read.source n ts) (read.source more ts)
 unfolding read.source
 source_room n more room ts = less_then (items_from_room n more room (turns ts) [] [] ts) (λ is us. Less.same)
 

@@ -62,7 +62,7 @@ next_from : {A : Type 0} (One : List Token → A → List Token → Type 0) (Res
     → (ts : List Token) (x : A) (us : List Token) (p : Pos) (vs : List Token) (xs : List A) (ws : List Token) → One ts x us → Marked m.Comma us p vs → Rest vs xs ws → Rest ts (x ∷ xs) ws
 next_from One Rest next ts x _ p vs xs ws i Marked.marked more = next ts x p vs xs ws i more
 
-pub list_from_yields : {A : Type 0} (One : List Token → A → List Token → Type 0) (Rest : List Token → List A → List Token → Type 0) (close : Punct) (one : Parser A)
+list_from_yields : {A : Type 0} (One : List Token → A → List Token → Type 0) (Rest : List Token → List A → List Token → Type 0) (close : Punct) (one : Parser A)
     → ((ts : List Token) (x : A) (p : Pos) (us : List Token) → One ts x (mark close p ∷ us) → Rest ts (x ∷ []) us)
     → ((ts : List Token) (x : A) (p : Pos) (us : List Token) (xs : List A) (vs : List Token) → One ts x (mark m.Comma p ∷ us) → Rest us xs vs → Rest ts (x ∷ xs) vs)
     → ((ts : List Token) → Yields (λ x us. One ts x us) (one ts))
@@ -94,7 +94,7 @@ module _ (ns : Names) (n : ℕ) (one : Parser Init) (each : (ts : List Token) �
   next_init_from : (ts : List Token) (i : Init) (us : List Token) (p : Pos) (vs : List Token) (is : List Init) (ws : List Token) → Init' ns n ts i us → Marked m.Comma us p vs → Inits ns n vs is ws → Inits ns n ts (i ∷ is) ws
   next_init_from ts i _ p vs is ws j Marked.marked more = Inits.next_init j more
 
-  pub inits_from_sound : (left : ℕ) (found : List Init) (ts : List Token) → Yields (λ is us. Behind found (λ js. Inits ns n ts js us) is) (read.inits_from one left found ts)
+  inits_from_sound : (left : ℕ) (found : List Init) (ts : List Token) → Yields (λ is us. Behind found (λ js. Inits ns n ts js us) is) (read.inits_from one left found ts)
   unfolding read.inits_from
   inits_from_sound zero found ts = Yields.stuck
   inits_from_sound (suc left) found ts =
@@ -106,13 +106,13 @@ module _ (ns : Names) (n : ℕ) (one : Parser Init) (each : (ts : List Token) �
       (λ g. map_yields (λ is ws r. (i ∷ r.0, r.1 ∙ append_assoc found (i ∷ []) r.0, next_init_from ts i us p vs r.0 ws j c r.2)) (inits_from_sound left (found ++ i ∷ []) vs))))
       (λ h. then_yields (expect_yields m.CloseBrace us) (λ p vs b. Yields.got (i ∷ [], refl, last_init_from ts i us p vs j b))))
 
-  pub inits_sound : (ts : List Token) → Yields (λ is us. Inits ns n ts is us) (read.inits_from one (turns ts) [] ts)
+  inits_sound : (ts : List Token) → Yields (λ is us. Inits ns n ts is us) (read.inits_from one (turns ts) [] ts)
   inits_sound ts = map_yields (λ is us p. subst (λ js. Inits ns n ts js us) (sym p.1) p.2) (inits_from_sound (turns ts) [] ts)
 
   braces_from : (ts : List Token) (p : Pos) (us : List Token) (is : List Init) (vs : List Token) → Opened m.OpenBrace (suc n) ts p us → Inits ns n us is vs → Init' ns (suc n) ts (init.Braces p is) vs
   braces_from _ p us is vs Opened.opened i = Init'.braces i
 
-pub braces_sound : (ns : Names) (n : ℕ) (one : Parser Init) → ((ts : List Token) → Yields (λ i us. Within (Init' ns) n ts i us) (one ts)) → (ts : List Token) → Yields (λ i us. Init' ns n ts i us) (read.braces n one ts)
+braces_sound : (ns : Names) (n : ℕ) (one : Parser Init) → ((ts : List Token) → Yields (λ i us. Within (Init' ns) n ts i us) (one ts)) → (ts : List Token) → Yields (λ i us. Init' ns n ts i us) (read.braces n one ts)
 unfolding read.braces
 braces_sound ns zero one each ts = then_yields (opens_yields zero m.OpenBrace ts) (λ p us o. absurd (no_room o))
 braces_sound ns (suc n) one each ts =
@@ -120,7 +120,7 @@ braces_sound ns (suc n) one each ts =
     then_yields (inits_sound ns n one each us) (λ is vs i.
     Yields.got (braces_from ns n one each ts p us is vs o i)))
 
-pub init_by_sound : (ns : Names) (n : ℕ) (one : Parser Init) → ((ts : List Token) → Yields (λ i us. Within (Init' ns) n ts i us) (one ts)) → (ts : List Token) → Yields (λ i us. Init' ns n ts i us) (read.init_by ns n one ts)
+init_by_sound : (ns : Names) (n : ℕ) (one : Parser Init) → ((ts : List Token) → Yields (λ i us. Within (Init' ns) n ts i us) (one ts)) → (ts : List Token) → Yields (λ i us. Init' ns n ts i us) (read.init_by ns n one ts)
 unfolding read.init_by
 init_by_sound ns n one each ts = if_yields (sees m.OpenBrace ts) (λ h. braces_sound ns n one each ts) (λ h. then_yields (whole_yields ns n ts) (λ a us i. Yields.got (Init'.init_value i)))
 
@@ -161,7 +161,7 @@ module _ (ns : Names) (n : ℕ) where
   next_arg_from : (p : Pos) (ts : List Token) (v : ArgValue) (us : List Token) (q : Pos) (vs : List Token) (xs : List Arg) (ws : List Token) → ArgValue' ns n ts v us → Marked m.Comma us q vs → Args ns n q vs xs ws → Args ns n p ts (tree.arg p v ∷ xs) ws
   next_arg_from p ts v _ q vs xs ws i Marked.marked more = Args.next_arg i more
 
-  pub args_from_sound : (left : ℕ) (p : Pos) (found : List Arg) (ts : List Token) → Yields (λ xs us. Behind found (λ ys. Args ns n p ts ys us) xs) (read.args_from ns n left p found ts)
+  args_from_sound : (left : ℕ) (p : Pos) (found : List Arg) (ts : List Token) → Yields (λ xs us. Behind found (λ ys. Args ns n p ts ys us) xs) (read.args_from ns n left p found ts)
   unfolding read.args_from
   args_from_sound zero p found ts = Yields.stuck
   args_from_sound (suc left) p found ts =
@@ -172,14 +172,14 @@ module _ (ns : Names) (n : ℕ) where
       (λ h. then_yields (expect_yields m.CloseParen us) (λ q vs c. Yields.got (tree.arg p v ∷ [], refl, last_arg_from p ts v us q vs i c))))
 
 -- after the opening bracket at that place
-pub data Given (ns : Names) (p : Pos) : ℕ → List Token → List Arg → List Token → Type 0 where
+data Given (ns : Names) (p : Pos) : ℕ → List Token → List Arg → List Token → Type 0 where
   none_given : {n : ℕ} {q : Pos} {us : List Token} → Given ns p n (mark m.CloseParen q ∷ us) [] us
   some_given : {n : ℕ} {ts us : List Token} {xs : List Arg} → Args ns n p ts xs us → Given ns p n ts xs us
 
 none_from : (ns : Names) (p : Pos) (n : ℕ) (ts : List Token) (q : Pos) (us : List Token) → Marked m.CloseParen ts q us → Given ns p n ts [] us
 none_from ns p n _ q us Marked.marked = Given.none_given
 
-pub args_sound : (ns : Names) (p : Pos) (n : ℕ) (ts : List Token) → Yields (λ xs us. Given ns p n ts xs us) (read.args ns p n ts)
+args_sound : (ns : Names) (p : Pos) (n : ℕ) (ts : List Token) → Yields (λ xs us. Given ns p n ts xs us) (read.args ns p n ts)
 unfolding read.args
 args_sound ns p n ts = if_yields (sees m.CloseParen ts)
     (λ h. let c = sees_is m.CloseParen ts h in Yields.got (none_from ns p n ts c.0 (after ts) c.1))
@@ -214,7 +214,7 @@ module _ (ns : Names) (n : ℕ) where
   before_from : (ts : List Token) (t : Turn) (p : Pos) (us : List Token) (x : Place) (vs : List Token) → MarkAt (λ mk. turn_of mk ≡ Some t) ts p us → Place' ns n us x vs → Simple' ns n ts (simply.Before t p x) vs
   before_from _ t p us x vs (MarkAt.mark_at_front h) i = Simple'.before h i
 
-  pub before_sound : (t : Turn) (ts : List Token) → read.turn_in (mark_at ts) ≡ Some t → Yields (λ a us. Simple' ns n ts a us) (read.before ns n t ts)
+  before_sound : (t : Turn) (ts : List Token) → read.turn_in (mark_at ts) ≡ Some t → Yields (λ a us. Simple' ns n ts a us) (read.before ns n t ts)
   unfolding read.before
   before_sound t ts h = then_yields (take_turn (mark_at ts) ts t refl h) (λ p us f. then_yields (place_yields ns n us) (λ x vs i. Yields.got (before_from ts t p us x vs f i)))
 
@@ -225,14 +225,14 @@ module _ (ns : Names) (n : ℕ) where
   compound_from : (star : Bool) (op : Compound) (x : Place) (us : List Token) (p : Pos) (vs : List Token) (a : Expr) (ws : List Token) → MarkAt (λ mk. compound_of mk ≡ Some op) us p vs → Whole ns n vs a ws → Assigned star x us (simply.Compound x op p a) ws
   compound_from star op x _ p vs a ws (MarkAt.mark_at_front h) i ts j e = Simple'.compound j h i
 
-  pub compounded_sound : (star : Bool) (x : Place) (o : Option Compound) (us : List Token) → read.compound_in (mark_at us) ≡ o → Yields (λ a vs. Assigned star x us a vs) (read.compounded ns n x o us)
+  compounded_sound : (star : Bool) (x : Place) (o : Option Compound) (us : List Token) → read.compound_in (mark_at us) ≡ o → Yields (λ a vs. Assigned star x us a vs) (read.compounded ns n x o us)
   compounded_sound star x None us h = Yields.stuck
   compounded_sound star x (Some op) us h = then_yields (take_compound (mark_at us) us op refl h) (λ p vs f. then_yields (whole_yields ns n vs) (λ a ws i. Yields.got (compound_from star op x us p vs a ws f i)))
 
   after_from : (star : Bool) (t : Turn) (x : Place) (us : List Token) (p : Pos) (vs : List Token) → star ≡ false → MarkAt (λ mk. turn_of mk ≡ Some t) us p vs → Assigned star x us (simply.After x t p) vs
   after_from star t x _ p vs h (MarkAt.mark_at_front f) ts j e = Simple'.after j f (e ∙ h)
 
-  pub turned_sound : (star : Bool) (x : Place) (o : Option Turn) (us : List Token) → read.turn_in (mark_at us) ≡ o → Yields (λ a vs. Assigned star x us a vs) (read.turned ns n star x o us)
+  turned_sound : (star : Bool) (x : Place) (o : Option Turn) (us : List Token) → read.turn_in (mark_at us) ≡ o → Yields (λ a vs. Assigned star x us a vs) (read.turned ns n star x o us)
   turned_sound star x None us h = compounded_sound star x (read.compound_in (mark_at us)) us refl
   turned_sound star x (Some t) us h = if_yields star (λ g. Yields.stuck) (λ g. then_yields (take_turn (mark_at us) us t refl h) (λ p vs f. Yields.got (after_from star t x us p vs g f)))
 
@@ -245,7 +245,7 @@ module _ (ns : Names) (n : ℕ) where
       (λ h. then_yields (expect_yields m.Equal us) (λ p vs c. then_yields (whole_yields ns n vs) (λ a ws i. Yields.got (assign_from star x us p vs a ws c i))))
       (λ h. turned_sound star x (read.turn_in (mark_at us)) us refl)
 
-  pub simple_by_sound : (o : Option Turn) (ts : List Token) → read.turn_in (mark_at ts) ≡ o → Yields (λ a us. Simple' ns n ts a us) (read.simple_by ns n o ts)
+  simple_by_sound : (o : Option Turn) (ts : List Token) → read.turn_in (mark_at ts) ≡ o → Yields (λ a us. Simple' ns n ts a us) (read.simple_by ns n o ts)
   simple_by_sound (Some t) ts h = before_sound t ts h
   simple_by_sound None ts h = then_yields (place_yields ns n ts) (λ x us i. map_yields (λ a vs go. go ts i refl) (assigned_sound (begins_with_star ts) x us))
 
@@ -260,7 +260,7 @@ module _ (ns : Names) (n : ℕ) where
   with_init_from : (ts : List Token) (x : Declr) (us : List Token) (p : Pos) (vs : List Token) (i : Init) (ws : List Token) → Declr' ns n ts x us → Marked m.Equal us p vs → Init' ns n vs i ws → LocalDeclr' ns n ts (tree.local_declr x (begins.Init p i)) ws
   with_init_from ts x _ p vs i ws j Marked.marked more = LocalDeclr'.with_init j more
 
-  pub local_start_sound : (ts : List Token) (x : Declr) (us : List Token) → Declr' ns n ts x us → Yields (λ l vs. LocalDeclr' ns n ts l vs) (read.local_start ns n x us)
+  local_start_sound : (ts : List Token) (x : Declr) (us : List Token) → Declr' ns n ts x us → Yields (λ l vs. LocalDeclr' ns n ts l vs) (read.local_start ns n x us)
   unfolding read.local_start
   local_start_sound ts x us j =
       then_yields (expect_yields m.Equal us) (λ p vs c.
@@ -272,7 +272,7 @@ module _ (ns : Names) (n : ℕ) where
   unfolding read.local_declr
   local_declr_sound ts = then_yields (declr_yields ns n ts) (λ x us j. if_yields (sees m.Equal us) (λ h. local_start_sound ts x us j) (λ h. Yields.got (LocalDeclr'.plain j)))
 
-  pub local_declrs_sound : (ts : List Token) → Yields (λ xs us. LocalDeclrs ns n ts xs us) (read.list m.Semicolon (read.local_declr ns n) ts)
+  local_declrs_sound : (ts : List Token) → Yields (λ xs us. LocalDeclrs ns n ts xs us) (read.list m.Semicolon (read.local_declr ns n) ts)
   local_declrs_sound = list_yields (λ ts x us. LocalDeclr' ns n ts x us) (λ ts xs us. LocalDeclrs ns n ts xs us) m.Semicolon (read.local_declr ns n)
       (λ ts x p us i. LocalDeclrs.last_local i) (λ ts x p us xs vs i more. LocalDeclrs.next_local i more) local_declr_sound
 
@@ -296,7 +296,7 @@ double_opened : {A : Type 0} (P : List Token → A → List Token → Type 0) (n
     → Opened m.OpenParen n ts p us → Opened m.OpenParen (n - 1) us q vs → P vs a ws → Marked m.CloseParen ws r xs → Marked m.CloseParen xs s ys → InDouble P n ts a ys
 double_opened P _ _ p us q vs a ws r xs s ys (Opened.opened {n}) o i c d = double_from P n p q vs a ws r xs s ys us (subst (λ j. Opened m.OpenParen j us q vs) (one_less n) o) i c d
 
-pub double_bracket_sound : {A : Type 0} (P : List Token → A → List Token → Type 0) (n : ℕ) (one : Parser A) → ((ts : List Token) → Yields (λ a us. P ts a us) (one ts)) → (ts : List Token) → Yields (λ a us. InDouble P n ts a us) (read.double_bracket n one ts)
+double_bracket_sound : {A : Type 0} (P : List Token → A → List Token → Type 0) (n : ℕ) (one : Parser A) → ((ts : List Token) → Yields (λ a us. P ts a us) (one ts)) → (ts : List Token) → Yields (λ a us. InDouble P n ts a us) (read.double_bracket n one ts)
 unfolding read.double_bracket
 double_bracket_sound P n one each ts =
     then_yields (opens_yields n m.OpenParen ts) (λ p us o.
@@ -307,11 +307,11 @@ double_bracket_sound P n one each ts =
     Yields.got (double_opened P n ts p us q vs a ws r xs s ys o o' i c d))))))
 
 -- nothing is read
-pub data Nothing {A : Type 0} (a : A) : List Token → A → List Token → Type 0 where
+data Nothing {A : Type 0} (a : A) : List Token → A → List Token → Type 0 where
   nothing_read : {us : List Token} → Nothing a us a us
 
 -- a directive with nothing between its brackets
-pub data IsBare (kw : Keyword) (x : Directive) : ℕ → List Token → Directive → List Token → Type 0 where
+data IsBare (kw : Keyword) (x : Directive) : ℕ → List Token → Directive → List Token → Type 0 where
   bare : {n : ℕ} {us : List Token} {p q r s t : Pos} → IsBare kw x (suc (suc n)) (key kw p ∷ mark m.OpenParen q ∷ mark m.OpenParen r ∷ mark m.CloseParen s ∷ mark m.CloseParen t ∷ us) x us
 
 bare_at : (kw : Keyword) (x : Directive) (n : ℕ) (q r s t p : Pos) (us : List Token) (y : Directive) (vs : List Token) → Nothing x us y (mark m.CloseParen s ∷ mark m.CloseParen t ∷ vs)
@@ -321,14 +321,14 @@ bare_at kw x n q r s t p _ _ vs Nothing.nothing_read = IsBare.bare
 bare_from : (kw : Keyword) (x : Directive) (n : ℕ) (ts : List Token) (p : Pos) (us : List Token) (y : Directive) (vs : List Token) → KeyAt kw ts p us → InDouble (Nothing x) n us y vs → IsBare kw x n ts y vs
 bare_from kw x _ _ p _ y vs KeyAt.key_at_front (InDouble.in_double {n} {p = q} {q = r} {r = s} {s = t} {us = us} i) = bare_at kw x n q r s t p us y vs i
 
-pub bare_sound : (kw : Keyword) (x : Directive) (n : ℕ) (ts : List Token) → key_at ts ≡ Some kw → Yields (λ y us. IsBare kw x n ts y us) (read.bare n x ts)
+bare_sound : (kw : Keyword) (x : Directive) (n : ℕ) (ts : List Token) → key_at ts ≡ Some kw → Yields (λ y us. IsBare kw x n ts y us) (read.bare n x ts)
 unfolding read.bare
 bare_sound kw x n ts h =
     then_yields (take_key_at ts kw h) (λ p us c.
     map_yields (λ y vs i. bare_from kw x n ts p us y vs c i) (double_bracket_sound (Nothing x) n (λ us. Got x us) (λ us. Yields.got Nothing.nothing_read) us))
 
 -- a directive with an expression between its brackets
-pub data IsWithExpr (ns : Names) (kw : Keyword) (f : Expr → Directive) : ℕ → List Token → Directive → List Token → Type 0 where
+data IsWithExpr (ns : Names) (kw : Keyword) (f : Expr → Directive) : ℕ → List Token → Directive → List Token → Type 0 where
   with_expr : {n : ℕ} {ts us : List Token} {p q r s t : Pos} {a : Expr} → Whole ns n ts a (mark m.CloseParen s ∷ mark m.CloseParen t ∷ us) →
       IsWithExpr ns kw f (suc (suc n)) (key kw p ∷ mark m.OpenParen q ∷ mark m.OpenParen r ∷ ts) (f a) us
 
@@ -336,7 +336,7 @@ with_expr_from : (ns : Names) (kw : Keyword) (f : Expr → Directive) (n : ℕ) 
     → InDouble (λ us a vs. Within (Within (Whole ns)) n us a vs) n us a vs → IsWithExpr ns kw f n ts (f a) vs
 with_expr_from ns kw f _ _ p _ a vs KeyAt.key_at_front (InDouble.in_double i) = IsWithExpr.with_expr i
 
-pub with_expr_sound : (ns : Names) (kw : Keyword) (f : Expr → Directive) (n : ℕ) (ts : List Token) → key_at ts ≡ Some kw → Yields (λ y us. IsWithExpr ns kw f n ts y us) (read.with_expr ns n f ts)
+with_expr_sound : (ns : Names) (kw : Keyword) (f : Expr → Directive) (n : ℕ) (ts : List Token) → key_at ts ≡ Some kw → Yields (λ y us. IsWithExpr ns kw f n ts y us) (read.with_expr ns n f ts)
 unfolding read.with_expr
 with_expr_sound ns kw f n ts h =
     then_yields {Q = λ a vs. IsWithExpr ns kw f n ts (f a) vs}
@@ -391,7 +391,7 @@ module _ (ns : Names) (n : ℕ) where
       → First' ns n ts (first.Declares t x p a) xs
   declares_from ts t us x _ p ws a xs i j Marked.marked h = First'.declares i j h
 
-  pub declares_sound : (ts : List Token) → Yields (λ f us. First' ns n ts f us) (read.declares ns n ts)
+  declares_sound : (ts : List Token) → Yields (λ f us. First' ns n ts f us) (read.declares ns n ts)
   unfolding read.declares
   declares_sound ts =
       then_yields (specifiers_yields ns n ts) (λ t us i.
@@ -416,7 +416,7 @@ module _ (ns : Names) (n : ℕ) where
   case_from : (ts : List Token) (p : Pos) (us : List Token) (a : Expr) (vs : List Token) (q : Pos) (ws : List Token) → KeyAt k.Case ts p us → Whole ns n us a vs → Marked m.Colon vs q ws → Label' ns n ts (label.Case p a) ws
   case_from _ p us a _ q ws KeyAt.key_at_front i Marked.marked = Label'.case i
 
-  pub case_sound : (ts : List Token) → key_at ts ≡ Some k.Case → Yields (λ l us. Label' ns n ts l us) (read.case ns n ts)
+  case_sound : (ts : List Token) → key_at ts ≡ Some k.Case → Yields (λ l us. Label' ns n ts l us) (read.case ns n ts)
   unfolding read.case
   case_sound ts h =
       then_yields (take_key_at ts k.Case h) (λ p us f.
@@ -427,11 +427,11 @@ module _ (ns : Names) (n : ℕ) where
   default_from : (ts : List Token) (p : Pos) (us : List Token) (q : Pos) (vs : List Token) → KeyAt k.Default ts p us → Marked m.Colon us q vs → Label' ns n ts (label.Default p) vs
   default_from _ p _ q vs KeyAt.key_at_front Marked.marked = Label'.default
 
-  pub default_sound : (ts : List Token) → key_at ts ≡ Some k.Default → Yields (λ l us. Label' ns n ts l us) (read.default ts)
+  default_sound : (ts : List Token) → key_at ts ≡ Some k.Default → Yields (λ l us. Label' ns n ts l us) (read.default ts)
   unfolding read.default
   default_sound ts h = then_yields (take_key_at ts k.Default h) (λ p us f. then_yields (expect_yields m.Colon us) (λ q vs c. Yields.got (default_from ts p us q vs f c)))
 
-  pub label_by_sound : (o : Option Keyword) (ts : List Token) → key_at ts ≡ o → Yields (λ l us. Label' ns n ts l us) (read.label_by ns n o ts)
+  label_by_sound : (o : Option Keyword) (ts : List Token) → key_at ts ≡ o → Yields (λ l us. Label' ns n ts l us) (read.label_by ns n o ts)
   label_by_sound (Some k.Case) ts h = case_sound ts h
   label_by_sound (Some k.Default) ts h = default_sound ts h
   label_by_sound o ts h = Yields.stuck

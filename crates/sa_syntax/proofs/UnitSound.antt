@@ -68,7 +68,7 @@ module _ (ns : Names) (n : ℕ) (bodies : Bodies) (sound : IsBodies ns n bodies)
       → Stmt' ns n ts (s.Block (tree.block p is q)) ws
   block_from _ _ p us is _ q ws Opened.opened i Marked.marked = Stmt'.block i
 
-  pub block_sound : (ts : List Token) → Yields (λ a us. Stmt' ns n ts a us) (read.block ns n bodies ts)
+  block_sound : (ts : List Token) → Yields (λ a us. Stmt' ns n ts a us) (read.block ns n bodies ts)
   unfolding read.block
   block_sound ts =
       then_yields (opens_yields n m.OpenBrace ts) (λ p us o.
@@ -79,14 +79,14 @@ module _ (ns : Names) (n : ℕ) (bodies : Bodies) (sound : IsBodies ns n bodies)
   empty_from : (ts : List Token) (p : Pos) (us : List Token) → MarkAt (λ mk. mk ≡ m.Semicolon) ts p us → Stmt' ns n ts (s.Empty p) us
   empty_from _ p us (MarkAt.mark_at_front {m = mk} e) = subst (λ (x : Punct). Stmt' ns n (mark x p ∷ us) (s.Empty p) us) (sym e) Stmt'.empty
 
-  pub empty_sound : (ts : List Token) → mark_at ts ≡ Some m.Semicolon → Yields (λ a us. Stmt' ns n ts a us) (read.empty ns n bodies ts)
+  empty_sound : (ts : List Token) → mark_at ts ≡ Some m.Semicolon → Yields (λ a us. Stmt' ns n ts a us) (read.empty ns n bodies ts)
   unfolding read.empty
   empty_sound ts h = then_yields (take_mark_at (λ mk. mk ≡ m.Semicolon) ts m.Semicolon h refl) (λ p us f. Yields.got (empty_from ts p us f))
 
   call_from : (ts : List Token) (c : Call) (us : List Token) (p : Pos) (vs : List Token) → Call' ns n ts c us → Marked m.Semicolon us p vs → Stmt' ns n ts (s.Call c) vs
   call_from ts c _ p vs i Marked.marked = Stmt'.call i
 
-  pub call_stmt_sound : (ts : List Token) → Yields (λ a us. Stmt' ns n ts a us) (read.call_stmt ns n bodies ts)
+  call_stmt_sound : (ts : List Token) → Yields (λ a us. Stmt' ns n ts a us) (read.call_stmt ns n bodies ts)
   unfolding read.call_stmt
   call_stmt_sound ts = then_yields (call_sound ns n ts) (λ c us i. then_yields (expect_yields m.Semicolon us) (λ p vs e. Yields.got (call_from ts c us p vs i e)))
 
@@ -94,7 +94,7 @@ module _ (ns : Names) (n : ℕ) (bodies : Bodies) (sound : IsBodies ns n bodies)
       → Stmt' ns n ts (s.Gives x p c) xs
   gives_from ts x _ p vs c _ q xs i Marked.marked j Marked.marked = Stmt'.gives i j
 
-  pub gives_sound : (ts : List Token) (x : Place) (us : List Token) → Place' ns n ts x us → Yields (λ a vs. Stmt' ns n ts a vs) (read.gives ns n bodies x us)
+  gives_sound : (ts : List Token) (x : Place) (us : List Token) → Place' ns n ts x us → Yields (λ a vs. Stmt' ns n ts a vs) (read.gives ns n bodies x us)
   unfolding read.gives
   gives_sound ts x us i =
       then_yields (expect_yields m.Equal us) (λ p vs c.
@@ -106,16 +106,16 @@ module _ (ns : Names) (n : ℕ) (bodies : Bodies) (sound : IsBodies ns n bodies)
   simple_from ts a _ p vs i Marked.marked = Stmt'.simple_stmt i
 
   -- what this reader answers from `us` is an assignment from `ts`
-  pub simple_ended_sound : (ts us : List Token) (p : Parser Simple) → Yields (λ a vs. Simple' ns n ts a vs) (p us) → Yields (λ a vs. Stmt' ns n ts a vs) (read.simple_ended ns n bodies p us)
+  simple_ended_sound : (ts us : List Token) (p : Parser Simple) → Yields (λ a vs. Simple' ns n ts a vs) (p us) → Yields (λ a vs. Stmt' ns n ts a vs) (read.simple_ended ns n bodies p us)
   unfolding read.simple_ended
   simple_ended_sound ts us p one = then_yields one (λ a vs i. then_yields (expect_yields m.Semicolon vs) (λ q ws e. Yields.got (simple_from ts a vs q ws i e)))
 
-  pub assigned_stmt_sound : (ts : List Token) (x : Place) (us : List Token) → Place' ns n ts x us → Yields (λ a vs. Stmt' ns n ts a vs) (read.assigned_stmt ns n bodies (begins_with_star ts) x us)
+  assigned_stmt_sound : (ts : List Token) (x : Place) (us : List Token) → Place' ns n ts x us → Yields (λ a vs. Stmt' ns n ts a vs) (read.assigned_stmt ns n bodies (begins_with_star ts) x us)
   unfolding read.assigned_stmt
   assigned_stmt_sound ts x us i = if_yields (sees m.Equal us && read.sees_call ns (after us)) (λ h. gives_sound ts x us i)
       (λ h. simple_ended_sound ts us (read.assigned ns n (begins_with_star ts) x) (map_yields (λ a vs go. go ts i refl) (assigned_sound ns n (begins_with_star ts) x us)))
 
-  pub placed_sound : (ts : List Token) → Yields (λ a us. Stmt' ns n ts a us) (read.placed ns n bodies ts)
+  placed_sound : (ts : List Token) → Yields (λ a us. Stmt' ns n ts a us) (read.placed ns n bodies ts)
   unfolding read.placed
   placed_sound ts = if_yields (read.sees_call ns ts) (λ h. call_stmt_sound ts) (λ h. then_yields (place_yields ns n ts) (λ x us i. assigned_stmt_sound ts x us i))
 
@@ -127,7 +127,7 @@ module _ (ns : Names) (n : ℕ) (bodies : Bodies) (sound : IsBodies ns n bodies)
       → KeyAt k.Else ws q xs → Within (Stmt' ns) n xs o ys → Stmt' ns n ts (s.IfElse p c a o) ys
   if_else_from _ _ p _ c vs a _ q xs o ys KeyAt.key_at_front (InBrackets.in_brackets i) j KeyAt.key_at_front l = Stmt'.if_else i j l
 
-  pub if_stmt_sound : (ts : List Token) → key_at ts ≡ Some k.If → Yields (λ a us. Stmt' ns n ts a us) (read.if_stmt ns n bodies ts)
+  if_stmt_sound : (ts : List Token) → key_at ts ≡ Some k.If → Yields (λ a us. Stmt' ns n ts a us) (read.if_stmt ns n bodies ts)
   unfolding read.if_stmt
   if_stmt_sound ts h =
       then_yields (take_key_at ts k.If h) (λ p us f.
@@ -140,7 +140,7 @@ module _ (ns : Names) (n : ℕ) (bodies : Bodies) (sound : IsBodies ns n bodies)
   while_from : (n : ℕ) (ts : List Token) (p : Pos) (us : List Token) (c : Expr) (vs : List Token) (a : Stmt) (ws : List Token) → KeyAt k.While ts p us → InBrackets ns n us c vs → Within (Stmt' ns) n vs a ws → Stmt' ns n ts (s.While p c a) ws
   while_from _ _ p _ c vs a ws KeyAt.key_at_front (InBrackets.in_brackets i) j = Stmt'.while i j
 
-  pub while_stmt_sound : (ts : List Token) → key_at ts ≡ Some k.While → Yields (λ a us. Stmt' ns n ts a us) (read.while_stmt ns n bodies ts)
+  while_stmt_sound : (ts : List Token) → key_at ts ≡ Some k.While → Yields (λ a us. Stmt' ns n ts a us) (read.while_stmt ns n bodies ts)
   unfolding read.while_stmt
   while_stmt_sound ts h =
       then_yields (take_key_at ts k.While h) (λ p us f.
@@ -148,7 +148,7 @@ module _ (ns : Names) (n : ℕ) (bodies : Bodies) (sound : IsBodies ns n bodies)
       then_yields (sound.stmt vs) (λ a ws j.
       Yields.got (while_from n ts p us c vs a ws f i j))))
 
-  pub while_by_sound : (o : Option Keyword) (ts : List Token) → key_at ts ≡ o → Yields (λ p us. KeyAt k.While ts p us) (read.while_by ns n bodies o ts)
+  while_by_sound : (o : Option Keyword) (ts : List Token) → key_at ts ≡ o → Yields (λ p us. KeyAt k.While ts p us) (read.while_by ns n bodies o ts)
   while_by_sound (Some k.While) ts h = take_key_at ts k.While h
   while_by_sound o ts h = Yields.stuck
 
@@ -160,7 +160,7 @@ module _ (ns : Names) (n : ℕ) (bodies : Bodies) (sound : IsBodies ns n bodies)
       → InBrackets ns n ws c xs → Marked m.Semicolon xs r ys → Stmt' ns n ts (s.DoWhile p a c) ys
   do_from _ _ p us a _ q _ c _ r ys KeyAt.key_at_front i KeyAt.key_at_front (InBrackets.in_brackets j) Marked.marked = Stmt'.do_while i j
 
-  pub do_stmt_sound : (ts : List Token) → key_at ts ≡ Some k.Do → Yields (λ a us. Stmt' ns n ts a us) (read.do_stmt ns n bodies ts)
+  do_stmt_sound : (ts : List Token) → key_at ts ≡ Some k.Do → Yields (λ a us. Stmt' ns n ts a us) (read.do_stmt ns n bodies ts)
   unfolding read.do_stmt
   do_stmt_sound ts h =
       then_yields (take_key_at ts k.Do h) (λ p us f.
@@ -175,7 +175,7 @@ module _ (ns : Names) (n : ℕ) (bodies : Bodies) (sound : IsBodies ns n bodies)
       → Within (Next' ns) n t7 x t8 → Marked m.CloseParen t8 u t9 → Within (Stmt' ns) n t9 a end → Stmt' ns n t1 (s.For p f c x a) end
   for_from _ _ p _ q t3 f _ r t5 c _ t t7 x _ u t9 a end KeyAt.key_at_front Opened.opened i Marked.marked j Marked.marked l Marked.marked o = Stmt'.for i j l o
 
-  pub for_stmt_sound : (ts : List Token) → key_at ts ≡ Some k.For → Yields (λ a us. Stmt' ns n ts a us) (read.for_stmt ns n bodies ts)
+  for_stmt_sound : (ts : List Token) → key_at ts ≡ Some k.For → Yields (λ a us. Stmt' ns n ts a us) (read.for_stmt ns n bodies ts)
   unfolding read.for_stmt
   for_stmt_sound t1 h =
       then_yields (take_key_at t1 k.For h) (λ p t2 w.
@@ -193,7 +193,7 @@ module _ (ns : Names) (n : ℕ) (bodies : Bodies) (sound : IsBodies ns n bodies)
       → Opened m.OpenBrace n vs q ws → Within (Groups ns) n ws gs xs → Marked m.CloseBrace xs r ys → Stmt' ns n ts (s.Switch p c gs) ys
   switch_from _ _ p _ c _ q ws gs _ r ys KeyAt.key_at_front (InBrackets.in_brackets i) Opened.opened j Marked.marked = Stmt'.switch i j
 
-  pub switch_stmt_sound : (ts : List Token) → key_at ts ≡ Some k.Switch → Yields (λ a us. Stmt' ns n ts a us) (read.switch_stmt ns n bodies ts)
+  switch_stmt_sound : (ts : List Token) → key_at ts ≡ Some k.Switch → Yields (λ a us. Stmt' ns n ts a us) (read.switch_stmt ns n bodies ts)
   unfolding read.switch_stmt
   switch_stmt_sound ts h =
       then_yields (take_key_at ts k.Switch h) (λ p us f.
@@ -206,7 +206,7 @@ module _ (ns : Names) (n : ℕ) (bodies : Bodies) (sound : IsBodies ns n bodies)
   break_from : (ts : List Token) (p : Pos) (us : List Token) (q : Pos) (vs : List Token) → KeyAt k.Break ts p us → Marked m.Semicolon us q vs → Stmt' ns n ts (s.Break p) vs
   break_from _ p _ q vs KeyAt.key_at_front Marked.marked = Stmt'.break
 
-  pub break_sound : (ts : List Token) → key_at ts ≡ Some k.Break → Yields (λ a us. Stmt' ns n ts a us) (read.break ns n bodies ts)
+  break_sound : (ts : List Token) → key_at ts ≡ Some k.Break → Yields (λ a us. Stmt' ns n ts a us) (read.break ns n bodies ts)
   unfolding read.break
   break_sound ts h = then_yields (take_key_at ts k.Break h) (λ p us f. then_yields (expect_yields m.Semicolon us) (λ q vs e. Yields.got (break_from ts p us q vs f e)))
 
@@ -214,7 +214,7 @@ module _ (ns : Names) (n : ℕ) (bodies : Bodies) (sound : IsBodies ns n bodies)
   return_from _ p _ _ _ q ws KeyAt.key_at_front Condition'.always Marked.marked = Stmt'.return
   return_from _ p us _ _ q ws KeyAt.key_at_front (Condition'.while i) Marked.marked = Stmt'.return_value i
 
-  pub return_sound : (ts : List Token) → key_at ts ≡ Some k.Return → Yields (λ a us. Stmt' ns n ts a us) (read.return ns n bodies ts)
+  return_sound : (ts : List Token) → key_at ts ≡ Some k.Return → Yields (λ a us. Stmt' ns n ts a us) (read.return ns n bodies ts)
   unfolding read.return
   return_sound ts h =
       then_yields (take_key_at ts k.Return h) (λ p us f.
@@ -225,18 +225,18 @@ module _ (ns : Names) (n : ℕ) (bodies : Bodies) (sound : IsBodies ns n bodies)
   directive_from : (ts : List Token) (x : Directive) (us : List Token) (p : Pos) (vs : List Token) → Directive' ns n ts x us → Marked m.Semicolon us p vs → Stmt' ns n ts (s.Directive (tree.pos_of ts) x) vs
   directive_from ts x _ p vs i Marked.marked = Stmt'.directive i
 
-  pub ended_sound : (p : Parser Directive) (ts : List Token) → Yields (λ x us. Directive' ns n ts x us) (p ts) → Yields (λ a us. Stmt' ns n ts a us) (read.ended p ts)
+  ended_sound : (p : Parser Directive) (ts : List Token) → Yields (λ x us. Directive' ns n ts x us) (p ts) → Yields (λ a us. Stmt' ns n ts a us) (read.ended p ts)
   unfolding read.ended
   ended_sound p ts one = then_yields one (λ x us i. then_yields (expect_yields m.Semicolon us) (λ q vs e. Yields.got (directive_from ts x us q vs i e)))
 
-  pub mark_stmt_sound : (o : Option Punct) (ts : List Token) → mark_at ts ≡ o → Yields (λ a us. Stmt' ns n ts a us) (read.mark_stmt ns n bodies o ts)
+  mark_stmt_sound : (o : Option Punct) (ts : List Token) → mark_at ts ≡ o → Yields (λ a us. Stmt' ns n ts a us) (read.mark_stmt ns n bodies o ts)
   mark_stmt_sound (Some m.OpenBrace) ts h = block_sound ts
   mark_stmt_sound (Some m.Semicolon) ts h = empty_sound ts h
   mark_stmt_sound (Some m.PlusPlus) ts h = simple_ended_sound ts ts (read.simple ns n) (simple_sound ns n ts)
   mark_stmt_sound (Some m.MinusMinus) ts h = simple_ended_sound ts ts (read.simple ns n) (simple_sound ns n ts)
   mark_stmt_sound o ts h = placed_sound ts
 
-  pub stmt_by_sound : (o : Option Keyword) (ts : List Token) → key_at ts ≡ o → Yields (λ a us. Stmt' ns n ts a us) (read.stmt_by ns n bodies o ts)
+  stmt_by_sound : (o : Option Keyword) (ts : List Token) → key_at ts ≡ o → Yields (λ a us. Stmt' ns n ts a us) (read.stmt_by ns n bodies o ts)
   stmt_by_sound None ts h = mark_stmt_sound (mark_at ts) ts refl
   stmt_by_sound (Some k.If) ts h = if_stmt_sound ts h
   stmt_by_sound (Some k.While) ts h = while_stmt_sound ts h
@@ -251,7 +251,7 @@ module _ (ns : Names) (n : ℕ) (bodies : Bodies) (sound : IsBodies ns n bodies)
   stmt_by_sound (Some k.Assert) ts h = ended_sound (read.with_expr ns n d.Assert) ts (assert_sound ns n ts h)
   stmt_by_sound (Some w) ts h = Yields.stuck
 
-  pub stmt_sound : (ts : List Token) → Yields (λ a us. Stmt' ns n ts a us) (read.stmt ns n bodies ts)
+  stmt_sound : (ts : List Token) → Yields (λ a us. Stmt' ns n ts a us) (read.stmt ns n bodies ts)
   unfolding read.stmt
   stmt_sound ts = stmt_by_sound (key_at ts) ts refl
 
@@ -267,7 +267,7 @@ module _ (ns : Names) (n : ℕ) (bodies : Bodies) (sound : IsBodies ns n bodies)
       (λ h. then_yields (local_sound ns n ts) (λ l us i. Yields.got (λ is vs more. Nested.nested_local i more)))
       (λ h. then_yields (each ts) (λ a us i. Yields.got (λ is vs more. nested_stmt n ts a us is vs i more)))
 
-  pub nested_sound : (one : Parser Stmt) → ((ts : List Token) → Yields (λ a us. Within (Stmt' ns) n ts a us) (one ts)) → (ts : List Token) → Yields (λ is us. Nested ns n ts is us) (read.block_items ns n bodies one ts)
+  nested_sound : (one : Parser Stmt) → ((ts : List Token) → Yields (λ a us. Within (Stmt' ns) n ts a us) (one ts)) → (ts : List Token) → Yields (λ is us. Nested ns n ts is us) (read.block_items ns n bodies one ts)
   unfolding read.block_items
   nested_sound one each = many_yields (λ ts is us. Nested ns n ts is us) read.no_close (read.block_item ns n bodies one) (λ us h. Nested.no_item) (λ ts h. nested_item_sound one each ts)
 
@@ -278,7 +278,7 @@ module _ (ns : Names) (n : ℕ) (bodies : Bodies) (sound : IsBodies ns n bodies)
       (λ h. then_yields (local_sound ns n ts) (λ l us i. Yields.got (λ is vs more. Outermost.local_item i more)))
       (λ h. then_yields (each ts) (λ a us i. Yields.got (λ is vs more. Outermost.stmt_item i more)))
 
-  pub outer_sound : (one : Parser Stmt) → ((ts : List Token) → Yields (λ a us. Stmt' ns n ts a us) (one ts)) → (ts : List Token) → Yields (λ is us. Outermost ns n ts is us) (read.block_items ns n bodies one ts)
+  outer_sound : (one : Parser Stmt) → ((ts : List Token) → Yields (λ a us. Stmt' ns n ts a us) (one ts)) → (ts : List Token) → Yields (λ is us. Outermost ns n ts is us) (read.block_items ns n bodies one ts)
   unfolding read.block_items
   outer_sound one each = many_yields (λ ts is us. Outermost ns n ts is us) read.no_close (read.block_item ns n bodies one) (λ us h. Outermost.no_item) (λ ts h. outer_item_sound one each ts)
 
@@ -286,7 +286,7 @@ module _ (ns : Names) (n : ℕ) (bodies : Bodies) (sound : IsBodies ns n bodies)
   body_stmt zero ts a us ss vs i more = absurd i
   body_stmt (suc n) ts a us ss vs i more = Body.stmt i more
 
-  pub body_sound : (ts : List Token) → Yields (λ ss us. Body ns n ts ss us) (many (read.goes_on ns n bodies) bodies.stmt ts)
+  body_sound : (ts : List Token) → Yields (λ ss us. Body ns n ts ss us) (many (read.goes_on ns n bodies) bodies.stmt ts)
   body_sound = many_yields (λ ts ss us. Body ns n ts ss us) (read.goes_on ns n bodies) bodies.stmt (λ us h. Body.no_stmt)
       (λ ts h. map_yields (λ a us i ss vs more. body_stmt n ts a us ss vs i more) (sound.stmt ts))
 
@@ -298,7 +298,7 @@ module _ (ns : Names) (n : ℕ) (bodies : Bodies) (sound : IsBodies ns n bodies)
       then_yields (body_sound vs) (λ ss ws b.
       Yields.got (λ gs xs more. Groups.group (j ts l i) b more))))
 
-  pub groups_sound : (ts : List Token) → Yields (λ gs us. Groups ns n ts gs us) (read.groups ns n bodies ts)
+  groups_sound : (ts : List Token) → Yields (λ gs us. Groups ns n ts gs us) (read.groups ns n bodies ts)
   unfolding read.groups
   groups_sound = many_yields (λ ts gs us. Groups ns n ts gs us) begins_with_label (read.a_group ns n bodies) (λ us h. Groups.no_group) (λ ts h. a_group_sound ts)
 
@@ -336,7 +336,7 @@ module _ (ns : Names) (n : ℕ) where
       (λ h. then_yields (any_name_yields vs) (λ x ws l. Yields.got (Param'.param i j (name_from vs x ws l))))
       (λ h. Yields.got (Param'.param i j Nameable.no_name))))
 
-  pub param_list_sound : (ts : List Token) → Yields (λ xs us. ParamList ns n ts xs us) (read.list m.CloseParen (read.param ns n) ts)
+  param_list_sound : (ts : List Token) → Yields (λ xs us. ParamList ns n ts xs us) (read.list m.CloseParen (read.param ns n) ts)
   param_list_sound = list_yields (λ ts x us. Param' ns n ts x us) (λ ts xs us. ParamList ns n ts xs us) m.CloseParen (read.param ns n)
       (λ ts x p us i. ParamList.last_param i) (λ ts x p us xs vs i more. ParamList.next_param i more) param_sound
 
@@ -382,7 +382,7 @@ proto_from : (ns : Names) (n : ℕ) (ts : List Token) (t : Specifiers) (t1 : Lis
 proto_from ns _ ts t _ _ _ p t3 ps _ r t5 i IsWord.is_word Opened.opened j Marked.marked is more = Units.proto i j more
 
 module _ (ns : Names) (n : ℕ) where
-  pub function_sound : (ts : List Token) (t : Specifiers) (us : List Token) → Specifiers' ns n ts t us → Yields (λ x vs. InFront ns n ts x vs) (read.function ns n t us)
+  function_sound : (ts : List Token) (t : Specifiers) (us : List Token) → Specifiers' ns n ts t us → Yields (λ x vs. InFront ns n ts x vs) (read.function ns n t us)
   unfolding read.function read.ends read.body
   function_sound ts t t1 i =
       then_yields (any_name_yields t1) (λ x t2 w.
@@ -397,11 +397,11 @@ module _ (ns : Names) (n : ℕ) where
       Yields.got (func_from ns n ts t t1 x t2 p t3 ps t4 r t5 bs t6 q t7 i w o j g o' l c)))))
       (λ g. Yields.stuck)))))
 
-  pub global_sound : (ts : List Token) (t : Specifiers) (us : List Token) → Specifiers' ns n ts t us → Yields (λ x vs. InFront ns n ts x vs) (read.global ns n t us)
+  global_sound : (ts : List Token) (t : Specifiers) (us : List Token) → Specifiers' ns n ts t us → Yields (λ x vs. InFront ns n ts x vs) (read.global ns n t us)
   unfolding read.global
   global_sound ts t us i = then_yields (init_declrs_sound ns n us) (λ xs vs j. Yields.got (λ is more. Units.global i j more))
 
-  pub named_item_sound : (ts : List Token) (t : Specifiers) (us : List Token) → Specifiers' ns n ts t us → Yields (λ x vs. InFront ns n ts x vs) (read.named_item ns n t us)
+  named_item_sound : (ts : List Token) (t : Specifiers) (us : List Token) → Specifiers' ns n ts t us → Yields (λ x vs. InFront ns n ts x vs) (read.named_item ns n t us)
   unfolding read.named_item
   named_item_sound ts t us i = if_yields (read.sees_function us) (λ h. function_sound ts t us i) (λ h. global_sound ts t us i)
 
@@ -409,7 +409,7 @@ module _ (ns : Names) (n : ℕ) where
       → InFront ns n ts (top.Typedef p t x) xs
   typedef_from _ p us t _ _ _ q xs KeyAt.key_at_front i IsWord.is_word Marked.marked is more = Units.typedef i more
 
-  pub typedef_sound : (ts : List Token) → key_at ts ≡ Some k.Typedef → Yields (λ x us. InFront ns n ts x us) (read.typedef ns n ts)
+  typedef_sound : (ts : List Token) → key_at ts ≡ Some k.Typedef → Yields (λ x us. InFront ns n ts x us) (read.typedef ns n ts)
   unfolding read.typedef
   typedef_sound ts h =
       then_yields (take_key_at ts k.Typedef h) (λ p us f.
@@ -438,17 +438,17 @@ module _ (ns : Names) (n : ℕ) where
   struct_from : (ts : List Token) (x : Struct) (us : List Token) (p : Pos) (vs : List Token) → Struct' ns n ts x us → Marked m.Semicolon us p vs → InFront ns n ts (top.Struct (tree.pos_of ts) x) vs
   struct_from ts x _ p vs i Marked.marked is more = Units.structure i more
 
-  pub struct_or_sound : (ts : List Token) (t : Specifiers) (us : List Token) (o : Option Struct) → Specifiers' ns n ts t us → read.struct_of t ≡ o → Yields (λ x vs. InFront ns n ts x vs) (read.struct_or ns n (tree.pos_of ts) t o us)
+  struct_or_sound : (ts : List Token) (t : Specifiers) (us : List Token) (o : Option Struct) → Specifiers' ns n ts t us → read.struct_of t ≡ o → Yields (λ x vs. InFront ns n ts x vs) (read.struct_or ns n (tree.pos_of ts) t o us)
   struct_or_sound ts t us None i e = named_item_sound ts t us i
   struct_or_sound ts t us (Some x) i e = if_yields (sees m.Semicolon us)
       (λ h. let c = sees_is m.Semicolon us h in Yields.got (struct_from ts x us c.0 (after us) (bare_struct ts us t x i e) c.1))
       (λ h. named_item_sound ts t us i)
 
-  pub declared_sound : (ts : List Token) → Yields (λ x us. InFront ns n ts x us) (read.declared ns n ts)
+  declared_sound : (ts : List Token) → Yields (λ x us. InFront ns n ts x us) (read.declared ns n ts)
   unfolding read.declared
   declared_sound ts = then_yields (specifiers_yields ns n ts) (λ t us i. struct_or_sound ts t us (read.struct_of t) i refl)
 
-  pub item_by_sound : (o : Option Keyword) (ts : List Token) → key_at ts ≡ o → Yields (λ x us. InFront ns n ts x us) (read.item_by ns n o ts)
+  item_by_sound : (o : Option Keyword) (ts : List Token) → key_at ts ≡ o → Yields (λ x us. InFront ns n ts x us) (read.item_by ns n o ts)
   item_by_sound (Some k.Typedef) ts h = typedef_sound ts h
   item_by_sound o ts h = declared_sound ts
 
@@ -456,7 +456,7 @@ module _ (ns : Names) (n : ℕ) where
   unfolding read.an_item
   an_item_sound ts = item_by_sound (key_at ts) ts refl
 
-pub items_from_sound : (n left : ℕ) (ns : Names) (found : List Item) (ts : List Token) → Yields (λ is us. Behind found (λ js. Units ns n ts js) is) (read.items_from n left ns found ts)
+items_from_sound : (n left : ℕ) (ns : Names) (found : List Item) (ts : List Token) → Yields (λ is us. Behind found (λ js. Units ns n ts js) is) (read.items_from n left ns found ts)
 unfolding read.items_from
 items_from_sound n zero ns found ts = Yields.stuck
 items_from_sound n (suc left) ns found [] = Yields.got ([], sym (append-nil found), Units.end)
@@ -464,7 +464,7 @@ items_from_sound n (suc left) ns found (t ∷ ts) =
     then_yields (an_item_sound ns n (t ∷ ts)) (λ x us i.
     map_yields (λ is vs r. (x ∷ r.0, r.1 ∙ append_assoc found (x ∷ []) r.0, i r.0 r.2)) (items_from_sound n left (read.names_after ns x) (found ++ x ∷ []) us))
 
-pub source_yields : (n : ℕ) (ts : List Token) → Yields (λ u us. Tree n ts u) (read.source n ts)
+source_yields : (n : ℕ) (ts : List Token) → Yields (λ u us. Tree n ts u) (read.source n ts)
 unfolding read.source
 source_yields n ts = then_yields (items_from_sound n (turns ts) [] [] ts) (λ is us r. Yields.got (subst (λ (js : List Item). Units [] n ts js) (sym r.1) r.2))
 
