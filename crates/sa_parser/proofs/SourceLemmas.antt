@@ -17,6 +17,7 @@ use Rattle.sa_syntax.specs.Trees as tree
 use Rattle.sa_syntax.specs.Refusals.{most_open, IsSource, HasNoTree, IsTooDeep, IsPlaceOf}
 use Rattle.sa_syntax.specs.SoundLaws.{MoreRoomReadsTheSameSource}
 use Rattle.sa_syntax.specs.StmtLaws.{ReadsSources}
+use Rattle.sa_syntax.specs.RefusalLaws.{TellsDepth}
 use Rattle.sa_parser.specs.Parts.{is_end}
 
 pub items_end : (n k : ℕ) (ns : Names) (found : List Item) (ts : List Token) → is_end ts ≡ true → items_from n (suc k) ns found ts ≡ Got found ts
@@ -68,8 +69,8 @@ at_room room n more ts us u s g (inr h) = more_room n more ts us u s g (room mor
 pub stuck_none : ReadsSources → MoreRoomReadsTheSameSource → (n : ℕ) (ts us : List Token) → items_from n (turns ts) [] [] ts ≡ Stuck us → HasNoTree ts
 stuck_none reads room n ts us h = λ more u x. at_room room n more ts us u (source_stuck n ts us h) (reads more ts u x) (either n more)
 
-pub deep_none : ReadsSources → (ts us : List Token) → items_from most_open (turns ts) [] [] ts ≡ Deep us → IsTooDeep ts
-deep_none reads ts us h = λ u x. let e = sym (source_deep most_open ts us h) ∙ reads most_open ts u x in cc
+pub deep_none : TellsDepth → (ts us : List Token) → items_from most_open (turns ts) [] [] ts ≡ Deep us → IsTooDeep ts
+deep_none tells ts us h = (tells most_open ts us (source_deep most_open ts us h)).0
 
 -- ---- places
 end_place : (end : Pos) (ts : List Token) → IsPlaceOf end ts end
@@ -82,8 +83,8 @@ token_place end (x ∷ ts) zero = inl refl
 token_place end (x ∷ ts) (suc k) = inr (token_place end ts k)
 
 -- ---- what is refused
-pub refused : ReadsSources → MoreRoomReadsTheSameSource → (ts us : List Token) (end p : Pos) (s : Stop) →
+pub refused : ReadsSources → MoreRoomReadsTheSameSource → TellsDepth → (ts us : List Token) (end p : Pos) (s : Stop) →
     (s ≢ stop.OutOfMemory → items_from most_open (turns ts) [] [] ts ≡ stopped s us) → IsPlaceOf end ts p → IsFault ts end (fault_at s p)
-refused reads room ts us end p stop.Syntax h at = (stuck_none reads room most_open ts us (h (λ e. cc)), at)
-refused reads room ts us end p stop.TooDeep h at = (deep_none reads ts us (h (λ e. cc)), at)
-refused reads room ts us end p stop.OutOfMemory h at = tt
+refused reads room tells ts us end p stop.Syntax h at = (stuck_none reads room most_open ts us (h (λ e. cc)), at)
+refused reads room tells ts us end p stop.TooDeep h at = (deep_none tells ts us (h (λ e. cc)), at)
+refused reads room tells ts us end p stop.OutOfMemory h at = tt

@@ -221,12 +221,12 @@ impl Grammar<'_> {
     fn ranked(&self, tokens: &mut Tokens<'_>, room: usize, level: usize) -> Result<Expr, Stop>
         ensures { Reads (read.ranked self.now.names.now room (inside self.now.names.now room) level tokens.old) result tokens.new }
     {
-        if level == 0 {
-            return self.unary(tokens, room);
+        let mut value = self.unary(tokens, room)?;
+        for below in 0..level {
+            let links = self.links(tokens, room, below + 1)?;
+            value = chained(self.alloc, value, links)?;
         }
-        let first = self.ranked(tokens, room, level - 1)?;
-        let links = self.links(tokens, room, level)?;
-        Ok(chained(self.alloc, first, links)?)
+        Ok(value)
     }
 
     /// Operators of this level, each with its right operand.

@@ -70,6 +70,7 @@ pub fn parse(alloc: Global, tokens: &[Token], end: Pos) -> Result<Unit, ParseFau
     sa_syntax::readings_are_sources();
     sa_syntax::reads_sources();
     sa_syntax::more_room_reads_the_same_source();
+    sa_syntax::tells_depth();
     // No memory holds so many.
     if tokens.len() == usize::MAX {
         return Err(ParseFault::OutOfMemory);

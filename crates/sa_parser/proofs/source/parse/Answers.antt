@@ -12,6 +12,6 @@ returns-in-Ok-clause-ok c =
 
 pub returns-in-Err-clause-fault : goal.returns-in-Err-clause-fault
 returns-in-Err-clause-fault c =
-    rw c.fault_at.ensures (refused c.reads_sources.ensures c.more_room_reads_the_same_source.ensures c.args.tokens.now c.items.new.tokens c.args.end c.place_of.result c.in-Err.stop
+    rw c.fault_at.ensures (refused c.reads_sources.ensures c.more_room_reads_the_same_source.ensures c.tells_depth.ensures c.args.tokens.now c.items.new.tokens c.args.end c.place_of.result c.in-Err.stop
     (first_of (search rules, grind (arith, common_steps)))
     (rw c.place_of.ensures (token_place c.args.end c.args.tokens.now c.saturating_sub-at.result)))

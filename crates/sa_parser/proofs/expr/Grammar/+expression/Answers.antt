@@ -1,10 +1,14 @@
-use Rattle.std.proofs.Common.{rules, arith, ◌-◌, ◌≡◌, suc}
+use Rattle.std.proofs.Common.{rules, arith, ◌+◌, ◌-◌, ◌≡◌, ◌∙◌, List}
 use Rattle.std.proofs.lemmas.Grind.{common_steps}
 use Rattle.sa_tokens.specs.declared.punct.Punct.TheVariants as m
 use Rattle.sa_syntax.specs.Reading.{many, while_from, sees}
 use Rattle.sa_syntax.specs.ReadExpr as read
-use Rattle.sa_syntax.specs.ReadExpr.{inside, steps, ranked, chain}
-use Rattle.sa_parser.proofs.Turns.{one_more, no_more, deeper}
+use Rattle.sa_syntax.specs.ReadExpr.{inside, steps, ranked, unary}
+use Rattle.sa_tokens.specs.declared.token.Token.{Token}
+use Rattle.sa_parser.specs.declared.fault.Stop.{Stop}
+use Rattle.sa_parser.specs.Outcome.{stopped}
+use Rattle.sa_parser.proofs.Levels.{ranked_tightest, ranked_next, refused_above}
+use Rattle.sa_parser.proofs.Turns.{one_more, no_more}
 use Rattle.sa_parser.proofs.expr.Grammar.+expression.Goals as goal
 
 pub links-returns-then-not-sees_operator : goal.links-returns-then-not-sees_operator
@@ -127,8 +131,15 @@ bounds-returns t c =
     let e = no_more (λ n. while_from (sees m.OpenBracket) (read.a_bound c.args.self.now.names.now c.args.room (inside c.args.self.now.names.now c.args.room)) n c.loop-turn.found c.loop-turn.tokens) _ c.loop-turn._turn c.loop-turn-test.false c.loop-turn.invariant in
     first_of (search rules, grind (arith, common_steps))
 
+pub ranked-returns-in_err-value : goal.ranked-returns-in_err-value
+ranked-returns-in_err-value t c =
+    let h : (s : Stop) (us : List Token) → unary c.args.self.now.names.now c.args.room (inside c.args.self.now.names.now c.args.room) c.args.tokens.now ≡ stopped s us → ranked c.args.self.now.names.now c.args.room (inside c.args.self.now.names.now c.args.room) c.args.level c.args.tokens.now ≡ stopped s us =
+      λ s us e. refused_above c.args.self.now.names.now c.args.room (inside c.args.self.now.names.now c.args.room) 0 c.args.level c.args.tokens.now s us (omega arith) (ranked_tightest c.args.self.now.names.now c.args.room (inside c.args.self.now.names.now c.args.room) c.args.tokens.now ∙ e) in
+    first_of (search (rules, h), grind (arith, common_steps, h))
+
 pub ranked-returns-in_err-links : goal.ranked-returns-in_err-links
-unfolding ranked chain
 ranked-returns-in_err-links t c =
-    let e = deeper (λ l. ranked c.args.self.now.names.now c.args.room (inside c.args.self.now.names.now c.args.room) l c.args.tokens.now) c.args.level (omega arith) in
-    first_of (search rules, grind (arith, common_steps))
+    let one = ranked_next c.args.self.now.names.now c.args.room (inside c.args.self.now.names.now c.args.room) c.loop-below.below c.args.tokens.now in
+    let h : (s : Stop) (us : List Token) → ranked c.args.self.now.names.now c.args.room (inside c.args.self.now.names.now c.args.room) (c.loop-below.below + 1) c.args.tokens.now ≡ stopped s us → ranked c.args.self.now.names.now c.args.room (inside c.args.self.now.names.now c.args.room) c.args.level c.args.tokens.now ≡ stopped s us =
+      λ s us e. refused_above c.args.self.now.names.now c.args.room (inside c.args.self.now.names.now c.args.room) (c.loop-below.below + 1) c.args.level c.args.tokens.now s us (omega arith) e in
+    first_of (search (rules, h), grind (arith, common_steps, h))

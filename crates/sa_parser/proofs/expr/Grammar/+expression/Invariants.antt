@@ -1,6 +1,6 @@
 use Rattle.std.proofs.Common.{◌≡◌, ◌+◌, ◌-◌, ◌*◌}
 use Rattle.sa_tokens.specs.declared.punct.Punct.TheVariants as m
-use Rattle.sa_syntax.specs.Reading.{many, while_from, sees}
+use Rattle.sa_syntax.specs.Reading.{many, while_from, sees, Got}
 use Rattle.sa_syntax.specs.ReadExpr as read
 use Rattle.sa_syntax.specs.ReadExpr.{inside}
 use Rattle.sa_parser.proofs.expr.Grammar.+expression.Given as goal
@@ -91,3 +91,6 @@ invariant-more_declrs-loop-turn l = many (sees m.Comma) (read.next_declr l.fn.se
 
 abbrev pub invariant-bounds-loop-turn : goal.invariant-bounds-loop-turn
 invariant-bounds-loop-turn l = many (sees m.OpenBracket) (read.a_bound l.fn.self.names.now l.fn.room (inside l.fn.self.names.now l.fn.room)) l.fn.tokens ≡ while_from (sees m.OpenBracket) (read.a_bound l.fn.self.names.now l.fn.room (inside l.fn.self.names.now l.fn.room)) (l._turn-end - l._turn) l.found l.tokens
+
+abbrev pub invariant-ranked-loop-below : goal.invariant-ranked-loop-below
+invariant-ranked-loop-below l = read.ranked l.fn.self.names.now l.fn.room (inside l.fn.self.names.now l.fn.room) l.below l.fn.tokens ≡ Got l.value l.tokens
