@@ -1,16 +1,28 @@
--- What a read tells of the content of the named file.
-use Rattle.std.proofs.Common.{◌≡◌, ℕ, ◌<◌, List, [], ◌∷◌, ◌++◌, Option, Some, None, Ok, Err, length, length-append, true, Bool, refl, sym, ap, subst, arith}
-use Rattle.std.specs.Prelude.{nat_lt, if◌then◌else◌}
-use Rattle.std.proofs.lemmas.Bool.Decides.{nat_tests}
+-- What a read tells of the content of the named file, and what was read of a source.
+use Rattle.std.proofs.Common.{◌≡◌, ℕ, ◌<◌, List, [], ◌∷◌, ◌++◌, Option, Some, None, Ok, Err, length, length-append, refl, sym, ap, subst, arith}
+use Rattle.std.specs.Prelude.{Result, IfOk}
+use Rattle.sa_base.specs.declared.pos.Pos.{Pos}
+use Rattle.sa_base.specs.declared.status.Status.{Status}
 use Rattle.sa_base.specs.declared.status.Status.TheVariants as s
 use Rattle.sa_base.specs.declared.limit.Limit.TheVariants.{Source}
 use Rattle.sa_outside.specs.Files.{Files, file_of}
 use Rattle.sa_outside.specs.Reading.{FitsFile, FitsTold, StopsAtLimit}
 use Rattle.sa_outside.specs.declared.shelf.ShelfError.TheVariants.{TooLong}
-use Rattle.sa_base.specs.declared.status.Status.{Status}
-use Rattle.sa_top.specs.Answer.{Answer, Says, Fits, content_answer, source_answer, built_answer}
+use Rattle.sa_tokens.specs.declared.token.Token.{Token}
+use Rattle.sa_tokens.specs.declared.fault.TokenFault.{TokenFault}
+use Rattle.sa_tokens.specs.declared.fault.TokenFault.TheVariants.{BadByte, BadNumber, OpenComment, Directive, TooManyTokens}
+use Rattle.sa_tokens.specs.declared.fault.TokenFault.TheVariants as t
+use Rattle.sa_tokens.specs.Lexed.{IsLexed, IsAnswer, end_pos}
+use Rattle.sa_parser.specs.declared.fault.ParseFault.{ParseFault}
+use Rattle.sa_parser.specs.declared.fault.ParseFault.TheVariants.{Syntax, TooDeep}
+use Rattle.sa_parser.specs.declared.fault.ParseFault.TheVariants as q
+use Rattle.sa_parser.specs.Faults.{IsFault}
+use Rattle.sa_top.specs.declared.program.Program.{Program}
+use Rattle.sa_top.specs.declared.reply.Reply.{Reply}
+use Rattle.sa_top.specs.Accepted.{IsAccepted}
+use Rattle.sa_top.specs.Answer.{SourceAnswer, report, report_status, report_of, IsWithin, bad_byte, bad_number, open_comment, directive, too_many, no_tree, too_deep, too_long, unlexed, unparsed}
+use Rattle.sa_top.specs.Rejections.{by_tokens, by_parser, IsRejected}
 use Rattle.sa_top.specs.Reply.{IsAnswered}
-use Rattle.sa_top.specs.Reading.{program_of}
 use Rattle.sa_top.specs.Report.{limit_text}
 use Rattle.sa_top.specs.Top.{IsTold}
 
@@ -23,29 +35,46 @@ read-told u (Some files) name got limit h = held (file_of name files) h
     held None h = absurd h
     held (Some file) h = ap (λ (x : List ℕ). Some x) h.0
 
-above_limit : (source : List ℕ) → 4194304 < length source → source_answer source ≡ Says s.Limit (limit_text Source)
-above_limit source h =
-    let test : nat_lt 4194304 (length source) ≡ true = grind (arith, nat_tests) in
-    ap (λ (b : Bool). if b then Says s.Limit (limit_text Source) else built_answer (program_of source)) test
-
 -- a content of the file that is too long
 pub record IsLong (files : Option Files) (name : List ℕ) : Type 0 where
-  pub content : Option (List ℕ)
-  pub told : IsTold files (Some name) content
-  pub answer : content_answer content ≡ Says s.Limit (limit_text Source)
+  pub source : List ℕ
+  pub told : IsTold files (Some name) (Some source)
+  pub long : 4194304 < length source
 
 held-long : (T : Type 0) (files : Files) (name got : List ℕ) (o : Option (List ℕ)) → file_of name files ≡ o → FitsFile {T = T} o 4194304 (Err TooLong) got → IsLong (Some files) name
 held-long T files name got None is h = absurd h
-held-long T files name got (Some file) is h = record { content = Some file; told = sym is; answer = above_limit file h.1 }
+held-long T files name got (Some file) is h = record { source = file; told = sym is; long = h.1 }
 
 pub long-told : (T : Type 0) (files : Option Files) (name got : List ℕ) → FitsTold {T = T} files name 4194304 (Err TooLong) got → StopsAtLimit {T = T} 4194304 (Err TooLong) got → IsLong files name
-long-told T None name got h k = record { content = Some (got ++ 0 ∷ []); told = tt; answer = above_limit (got ++ 0 ∷ []) (omega (arith, k, length-append got (0 ∷ []))) }
+long-told T None name got h k = record { source = got ++ 0 ∷ []; told = tt; long = omega (arith, k, length-append got (0 ∷ [])) }
 long-told T (Some files) name got h k = held-long T files name got (file_of name files) refl h
 
 -- the reply about a file that is too long
 pub long-answered : (files : Option Files) (name : List ℕ) (status : Status) (text : List ℕ) → IsLong files name → status ≡ s.Limit → text ≡ limit_text Source → IsAnswered files (Some name) status text
 long-answered files name status text long is written = record {
-  content = long.content;
+  content = Some long.source;
   told = long.told;
-  fits = subst (λ (a : Answer). Fits a status text) (sym long.answer) (is, written);
+  fits = rw (is, written) (too_long long.long);
 }
+
+-- ---- what was read of a source
+pub tokens-rejected : (source : List ℕ) (fault : TokenFault) → IsWithin source → IsAnswer source fault → IsRejected source (by_tokens fault)
+tokens-rejected source (BadByte p) w h = unlexed _ _ w (bad_byte p h)
+tokens-rejected source (BadNumber p) w h = unlexed _ _ w (bad_number p h)
+tokens-rejected source (OpenComment p) w h = unlexed _ _ w (open_comment p h)
+tokens-rejected source (Directive p) w h = unlexed _ _ w (directive p h)
+tokens-rejected source TooManyTokens w h = unlexed _ _ w (too_many h)
+tokens-rejected source t.OutOfMemory w h = tt
+
+parser-fault : (source : List ℕ) (ts : List Token) (fault : ParseFault) → IsWithin source → IsLexed source ts → IsFault ts (end_pos source) fault → IsRejected source (by_parser fault)
+parser-fault source ts (Syntax p) w l h = unparsed _ _ w (no_tree ts p l h)
+parser-fault source ts (TooDeep p) w l h = unparsed _ _ w (too_deep ts p l h)
+parser-fault source ts q.OutOfMemory w l h = tt
+
+-- of tokens and an end that are passed
+pub parser-rejected : (source : List ℕ) (ts us : List Token) (end : Pos) (fault : ParseFault) → IsWithin source → IsLexed source ts → us ≡ ts → end ≡ end_pos source → IsFault us end fault → IsRejected source (by_parser fault)
+parser-rejected source ts us end fault w l d e h = parser-fault source ts fault w l (subst (λ (x : Pos). IsFault ts x fault) e (subst (λ (x : List Token). IsFault x end fault) d h))
+
+pub report-fits : {E : Type 0} (source : List ℕ) (p : Program) (o : Result Reply E) → IsWithin source → IsAccepted source p → IfOk o (λ r. (r.status ≡ report_status p) × (r.text.items ≡ report_of p)) → IfOk o (λ r. SourceAnswer source r.status r.text.items)
+report-fits source p (Ok r) w i h = rw (h.0, h.1) (report p w i)
+report-fits source p (Err e) w i h = tt

@@ -12,8 +12,8 @@ use Rattle.std.proofs.lemmas.Bool.{true≢false, cases_Bool, cond-true, cond-fal
 use Rattle.std.proofs.lemmas.Map.Text.{is_eq-slice_cmp}
 use Rattle.sa_top.specs.declared.program.Term.{Term}
 use Rattle.sa_top.specs.declared.program.Term.TheVariants.{Cell, Input}
-use Rattle.sa_top.specs.Reading.{Scope, no_names, with_cell, with_input, index_from, variable_in, variable_of}
-use Rattle.sa_top.specs.ReadingSteps.{term_in}
+use Rattle.sa_top.specs.Scopes.{Scope, no_names, with_cell, with_input, index_from, variable_in, variable_of}
+use Rattle.sa_top.specs.Scopes.{term_in}
 
 -- ---- the map
 apart : (bs cs ks : List ℕ) → bytes_eq bs cs ≡ false → is_eq (slice_cmp nat_cmp bs ks) ≡ true → is_eq (slice_cmp nat_cmp cs ks) ≡ false

@@ -1,8 +1,9 @@
-pub mod Tokens
-pub mod Reading
-pub mod ReadingSteps
-pub mod ReadingOf
-pub mod Grammar
+pub mod Scopes
+pub mod BuiltSums
+pub mod BuiltTurn
+pub mod Building
+pub mod BuildingSteps
+pub mod Accepted
 pub mod Evaluation
 pub mod Executions
 pub mod Domain
@@ -19,4 +20,5 @@ pub mod Sound
 pub mod Report
 pub mod Answer
 pub mod Top
+pub mod Rejections
 pub mod Reply

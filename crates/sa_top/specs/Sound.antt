@@ -12,7 +12,7 @@ use Rattle.sa_top.specs.Reference.{reference, record_at}
 use Rattle.sa_top.specs.Intervals.{intervals}
 use Rattle.sa_top.specs.Lines.{IsTrueLine, lines_of}
 use Rattle.sa_top.specs.Alarms.{rising}
-use Rattle.sa_top.specs.Reading.{program_of}
+use Rattle.sa_top.specs.Accepted.{IsAccepted}
 
 abbrev pub IsAmong : {A : Type 0} → A → List A → Type 0
 IsAmong a [] = ⊥
@@ -45,7 +45,7 @@ pub record IsTrueOf (p : Program) (f : Found Flat) (r : Run) : Type 0 where
 
 -- over every accepted source, every tape and every number of visits
 abbrev pub Sound : Type 0
-Sound = (source : List ℕ) (p : Program) → program_of source ≡ Some p → (tape : List ℤ) (n : ℕ) → IsTrueOf p (found_of p) (execution p max_clock tape n)
+Sound = (source : List ℕ) (p : Program) → IsAccepted source p → (tape : List ℤ) (n : ℕ) → IsTrueOf p (found_of p) (execution p max_clock tape n)
 
 abbrev pub Short : Type 0
-Short = (source : List ℕ) (p : Program) → program_of source ≡ Some p → AllByRecursion (λ r. r.passes ≤ 32) (found_of p).records
+Short = (source : List ℕ) (p : Program) → IsAccepted source p → AllByRecursion (λ r. r.passes ≤ 32) (found_of p).records

@@ -1,10 +1,13 @@
 -- What a top call leaves.
-use Rattle.std.specs.Prelude.{ℕ, ◌+◌, ◌-◌, ◌<◌, ◌≡◌, ◌≢◌, List, [], ◌++◌, length, take, Option, Some, None}
+use Rattle.std.specs.Prelude.{ℕ, Bool, IsTrue, ◌+◌, ◌-◌, ◌<◌, ◌≡◌, ◌≢◌, List, [], ◌++◌, length, take, Option, Some, None}
 use Rattle.sa_base.specs.declared.status.Status.{Status}
 use Rattle.sa_base.specs.declared.status.Status.TheVariants as s
 use Rattle.sa_outside.specs.Files.{Files, file_of}
+use Rattle.sa_outside.specs.Causes.{Rose}
 use Rattle.sa_outside.specs.Writing.{Appends}
-use Rattle.sa_top.specs.Answer.{Answer, Misses, answer_of, name_of, named_answer, content_of, Fits}
+use Rattle.sa_top.specs.declared.program.Program.{Program}
+use Rattle.sa_top.specs.Accepted.{IsAccepted}
+use Rattle.sa_top.specs.Answer.{Answer, Misses, answer_of, name_of, named_answer, content_of, Fits, IsWithin, report_status, report_of}
 
 -- a proper prefix of the text was written
 abbrev pub AppendsPart : Option (List ℕ) → Option (List ℕ) → List ℕ → Type 0
@@ -71,3 +74,22 @@ UsageHolds None _ = ⊥
 abbrev pub Finished : Status → List ℕ → Status → Option (List ℕ) → Option (List ℕ) → Type 0
 Finished status text s.WriteFault before after = AppendsPart before after text
 Finished status text result before after = (result ≡ status) × Appends before after text
+
+-- a sure shelf holds the file that is asked for, which is the source of a program, within the limit
+pub record HoldsProgram (sure : Bool) (told : Option Files) (words : List (List ℕ)) (p : Program) : Type 0 where
+  pub files : Files
+  pub source : List ℕ
+  pub is_sure : IsTrue sure
+  pub tells : told ≡ Some files
+  pub holds : content_of files (name_of words) ≡ Some source
+  pub within : IsWithin source
+  pub accepted : IsAccepted source p
+
+-- no fault is counted
+abbrev pub Stays : ℕ → ℕ → Type 0
+Stays before now = Rose before now → ⊥
+
+-- the report is written whole, or there is no memory for it
+abbrev pub Reported : Program → Status → Option (List ℕ) → Option (List ℕ) → Type 0
+Reported p s.OutOfMemory before after = Appends before after []
+Reported p status before after = (status ≡ report_status p) × Appends before after (report_of p)

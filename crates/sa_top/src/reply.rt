@@ -4,8 +4,7 @@ ghost use Rattle.std.specs.Prelude.{◌≡◌, ◌≢◌, ◌≤◌, ◌++◌, [
 ghost use Rattle.std.specs.Option.{option_map};
 ghost use Rattle.sa_outside.specs.Causes.{Rose};
 ghost use Rattle.sa_top.specs.Alarms.{rising};
-ghost use Rattle.sa_top.specs.Answer.{name_of, verdict, Fits, Refuses, built_answer, source_answer, HasText, IsPlace};
-ghost use Rattle.sa_top.specs.ReadingOf.{IsReading};
+ghost use Rattle.sa_top.specs.Answer.{name_of, verdict, report_status, report_of, SourceAnswer, HasText};
 ghost use Rattle.sa_top.specs.Reply.{Replies, RepliesUsage};
 ghost use Rattle.sa_top.specs.Report.{refused_text, usage_text, limit_text};
 ghost use Rattle.sa_top.specs.Top.{IsMissing, LacksFile};
@@ -13,10 +12,9 @@ ghost use Rattle.sa_top.specs.Top.{IsMissing, LacksFile};
 use crate::alarms::rising;
 use crate::passes::analyze;
 use crate::program::Program;
-use crate::reader::read_source;
-use crate::reading::Reading;
 use crate::report::report;
-use sa_base::{Alarm, Code, Limit, OutOfMemory, Pos, Status, Text};
+use crate::source::{Rejection, read_source};
+use sa_base::{Alarm, Limit, OutOfMemory, Refusal, Status, Text};
 use sa_outside::{Shelf, ShelfError};
 use std::alloc::Global;
 
@@ -89,12 +87,12 @@ fn limit_reply(alloc: Global, limit: Limit) -> Result<Reply, OutOfMemory>
 }
 
 #[tactic(auto, unfolding(crate::specs::Report::refused_text))]
-fn refused_reply(alloc: Global, code: Code, place: Pos) -> Result<Reply, OutOfMemory>
-    ensures { IfOk result (λ r. (r.status ≡ Status.SourceRefused) × (r.text.items ≡ refused_text code place)) }
+fn refused_reply(alloc: Global, refusal: Refusal) -> Result<Reply, OutOfMemory>
+    ensures { IfOk result (λ r. (r.status ≡ Status.SourceRefused) × (r.text.items ≡ refused_text refusal.code refusal.pos)) }
 {
-    let word = code.word(alloc)?;
-    let line = place.line;
-    let col = place.col;
+    let word = refusal.code.word(alloc)?;
+    let line = refusal.pos.line;
+    let col = refusal.pos.col;
     let text = format!(in alloc; "source refused {word} {line}:{col}\n")?;
     Ok(Reply {
         status: Status::SourceRefused,
@@ -113,7 +111,7 @@ fn verdict(alarms: &[Alarm]) -> Status
 
 /// The report on a program.
 fn built_reply(alloc: Global, program: &Program) -> Result<Reply, OutOfMemory>
-    ensures { IfOk result (λ r. Fits (built_answer (Some program.now)) r.status r.text.items) }
+    ensures { IfOk result (λ r. (r.status ≡ report_status program.now) × (r.text.items ≡ report_of program.now)) }
 {
     let analysis = analyze(alloc, program, MAX_CLOCK)?;
     let alarms = rising(alloc, &analysis.alarms)?;
@@ -124,23 +122,18 @@ fn built_reply(alloc: Global, program: &Program) -> Result<Reply, OutOfMemory>
     })
 }
 
-fn unbuilt_reply(alloc: Global, place: Pos) -> Result<Reply, OutOfMemory>
-    requires { IsPlace place }
-    ensures { IfOk result (λ r. Fits Refuses r.status r.text.items) }
-{
-    refused_reply(alloc, Code::Unsupported, place)
-}
-
 /// The reply to a source within the limit.
 fn source_reply(alloc: Global, source: &[u8]) -> Result<Reply, OutOfMemory>
     requires { length source.now ≤ 4194304 }
-    ensures fits { IfOk result (λ r. Fits (source_answer source.now) r.status r.text.items) }
+    ensures fits { IfOk result (λ r. SourceAnswer source.now r.status r.text.items) }
     ensures status { IfOk result (λ r. HasText r.status) }
     ensures no_usage { IfOk result (λ r. r.status ≢ Status.Usage) }
 {
-    match read_source(alloc, source)? {
-        Reading::Built(program) => built_reply(alloc, &program),
-        Reading::Unbuilt(place) => unbuilt_reply(alloc, place),
+    match read_source(alloc, source) {
+        Ok(program) => built_reply(alloc, &program),
+        Err(Rejection::Refused(refusal)) => refused_reply(alloc, refusal),
+        Err(Rejection::Above(limit)) => limit_reply(alloc, limit),
+        Err(Rejection::NoMemory) => Err(OutOfMemory),
     }
 }
 

@@ -3,8 +3,8 @@
 ghost use Rattle.std.specs.Prelude.{◌≡◌, List, ℕ, IfOk, OnOk, OnErr, if◌then◌else◌};
 ghost use Rattle.std.specs.Option.{option_copied};
 ghost use Rattle.std.specs.Str.{bytes_eq};
-ghost use Rattle.sa_top.specs.Reading.{no_names, with_cell, with_input, variable_of};
-ghost use Rattle.sa_top.specs.ReadingSteps.{term_in};
+ghost use Rattle.sa_top.specs.Scopes.{no_names, with_cell, with_input, variable_of};
+ghost use Rattle.sa_top.specs.Scopes.{term_in};
 
 use crate::program::Term;
 use sa_base::{OutOfMemory, Text};
@@ -23,8 +23,8 @@ pub struct Scope {
 
 impl Model for Scope {
     ghost use Rattle.std.specs.Prelude.{◌≡◌, List, ℕ};
-    ghost use Rattle.sa_top.specs.Reading.{Scope, variable_of};
-    ghost use Rattle.sa_top.specs.ReadingSteps.{term_in};
+    ghost use Rattle.sa_top.specs.Scopes.{Scope, variable_of};
+    ghost use Rattle.sa_top.specs.Scopes.{term_in};
 
     ghost Value = { Scope };
 

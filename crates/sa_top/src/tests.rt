@@ -1,4 +1,4 @@
-//! The worked cases of the first path, from outside: what a source is answered with.
+//! The worked cases from outside: what a source is answered with.
 
 use crate::run_alone;
 use sa_base::{Status, Text};
@@ -16,6 +16,17 @@ fn words(alloc: Global, words: &[&str]) -> Result<Vec<String>, AllocError> {
         list.push(String::from_str(alloc, word)?)?;
     }
     Ok(list)
+}
+
+/// The pieces in a row, each as often as it says.
+fn row(alloc: Global, pieces: &[(&str, usize)]) -> Result<Vec<u8>, AllocError> {
+    let mut source = Vec::new(alloc);
+    for (piece, count) in pieces {
+        for _ in 0..*count {
+            source.extend_from_slice(piece.as_bytes())?;
+        }
+    }
+    Ok(source)
 }
 
 /// A shelf with one file, `a.c`.
@@ -41,6 +52,21 @@ fn what_a_source_is_answered_with(rt: HostRuntime) -> Result<(), Fail> {
             "source refused U1 1:26\n",
         ),
         ("", Status::SourceRefused, "source refused U1 1:1\n"),
+        (
+            "int x = 0x",
+            Status::SourceRefused,
+            "source refused L2 1:9\n",
+        ),
+        (
+            "int x; /* abc",
+            Status::SourceRefused,
+            "source refused L3 1:8\n",
+        ),
+        (
+            "void main(void) { while (",
+            Status::SourceRefused,
+            "source refused S1 1:26\n",
+        ),
     ];
     for (source, status, text) in cases {
         let mut out = SureSink::new(alloc, 200)?;
@@ -87,15 +113,37 @@ fn a_write_that_fails_leaves_a_prefix(rt: HostRuntime) -> Result<(), Fail> {
 }
 
 #[test]
-fn a_source_above_the_limit(rt: HostRuntime) -> Result<(), Fail> {
+fn what_a_long_source_is_answered_with(rt: HostRuntime) -> Result<(), Fail> {
     let alloc = rt.alloc();
-    let mut source = Vec::new(alloc);
-    source.resize(4_194_305, b' ')?;
-    let mut out = SureSink::new(alloc, 52)?;
-    let given = words(alloc, ["analyze", "a.c"].as_slice())?;
-    let mut files = shelf(alloc, &source)?;
-    let status = run_alone(alloc, &given, &mut files, &mut out);
-    assert_eq!(rt; status, Status::Limit);
-    assert_eq!(rt; out.bytes(), "limit source 4194304\n".as_bytes());
+    let cases = [
+        (
+            [(" ", 4_194_305)].as_slice(),
+            Status::Limit,
+            "limit source 4194304\n",
+        ),
+        (
+            [(";", 1_000_001)].as_slice(),
+            Status::Limit,
+            "limit tokens 1000000\n",
+        ),
+        (
+            [("int x = ", 1), ("(", 201)].as_slice(),
+            Status::Limit,
+            "limit nesting 200\n",
+        ),
+        (
+            [("int x = ", 1), ("(", 200), ("1", 1), (")", 200), (";", 1)].as_slice(),
+            Status::SourceRefused,
+            "source refused U1 1:7\n",
+        ),
+    ];
+    for (pieces, status, text) in cases {
+        let source = row(alloc, pieces)?;
+        let mut out = SureSink::new(alloc, 52)?;
+        let mut files = shelf(alloc, &source)?;
+        let given = words(alloc, ["analyze", "a.c"].as_slice())?;
+        assert_eq!(rt; run_alone(alloc, &given, &mut files, &mut out), status);
+        assert_eq!(rt; out.bytes(), text.as_bytes());
+    }
     Ok(())
 }

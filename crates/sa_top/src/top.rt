@@ -3,10 +3,11 @@
 ghost use Rattle.std.specs.Prelude.{◌≡◌, ◌≢◌, ◌≤◌, map, string_bytes, IsTrue};
 ghost use Rattle.sa_base.specs.declared.status.Status.TheVariants.{ReadFault, WriteFault};
 ghost use Rattle.sa_outside.specs.Causes.{Rose};
-ghost use Rattle.sa_top.specs.Answer.{name_of, HasText};
-ghost use Rattle.sa_top.specs.Grammar.{ReadsUnits};
+ghost use Rattle.sa_top.specs.declared.program.Program.{Program};
+ghost use Rattle.sa_top.specs.Accepted.{OneReading};
+ghost use Rattle.sa_top.specs.Answer.{name_of, HasText, OneAnswer};
 ghost use Rattle.sa_top.specs.Sound.{Sound, Short};
-ghost use Rattle.sa_top.specs.Top.{Answers, IsMissing, UsageHolds, Finished};
+ghost use Rattle.sa_top.specs.Top.{Answers, IsMissing, UsageHolds, Finished, HoldsProgram, Stays, Reported};
 
 use crate::output::write_all;
 use crate::reply::{Reply, Silent, reply_to};
@@ -37,13 +38,17 @@ pub fn run_alone<H: Shelf, K: Sink>(
     ensures shelf_count { H.faults shelf.old ≤ H.faults shelf.new }
     ensures sink_count { K.faults out.old ≤ K.faults out.new }
 
+    // Of a program that the shelf holds for sure the whole report is written, where the sink counts no fault and memory suffices.
+    ensures complete { (p : Program) → HoldsProgram (H.sure shelf.old) (H.files shelf.old) (map string_bytes words.now) p → Stays (K.faults out.old) (K.faults out.new) → Reported p result (K.written out.old) (K.written out.new) }
+
     // The reference analysis is sound over every accepted source, tape and number of turns, and no loop takes more than 32
     // passes.
     ensures sound { Sound }
     ensures short { Short }
 
-    // A source is read as a program exactly where its tokens are a unit of the grammar.
-    ensures grammar { ReadsUnits }
+    // A source is read as one program at most, and has one answer, unless it has no tree.
+    ensures read_once { OneReading }
+    ensures answered_once { OneAnswer }
 {
     match reply_to(alloc, words, shelf) {
         Ok(reply) => finish(reply, out),
@@ -69,10 +74,12 @@ pub fn run<R: Threads + Wait + Sync, H: Shelf, K: Sink, G: Gate + Sync>(
     ensures write { result ≡ WriteFault → Rose (K.faults out.old) (K.faults out.new) }
     ensures shelf_count { H.faults shelf.old ≤ H.faults shelf.new }
     ensures sink_count { K.faults out.old ≤ K.faults out.new }
+    ensures complete { (p : Program) → HoldsProgram (H.sure shelf.old) (H.files shelf.old) (map string_bytes words.now) p → Stays (K.faults out.old) (K.faults out.new) → Reported p result (K.written out.old) (K.written out.new) }
 
     ensures sound { Sound }
     ensures short { Short }
-    ensures grammar { ReadsUnits }
+    ensures read_once { OneReading }
+    ensures answered_once { OneAnswer }
 {
     run_alone(alloc, words, shelf, out)
 }

@@ -3,7 +3,7 @@ use Rattle.sa_outside.specs.Reading.{FitsTold, StopsAtLimit}
 use Rattle.sa_outside.specs.declared.shelf.ShelfError.TheVariants.{TooLong}
 use Rattle.sa_base.specs.declared.limit.Limit.TheVariants.{Source}
 use Rattle.sa_base.specs.declared.status.Status.TheVariants as s
-use Rattle.sa_top.specs.Answer.{Fits, source_answer}
+use Rattle.sa_top.specs.Answer.{SourceAnswer}
 use Rattle.sa_top.specs.Report.{limit_text}
 use Rattle.sa_top.proofs.ReplyLemmas.{read-told, long-told, long-answered}
 use Rattle.sa_top.proofs.reply.named_reply.Goals as goal
@@ -12,7 +12,7 @@ pub returns-in-Ok-clause-answered : goal.returns-in-Ok-clause-answered
 returns-in-Ok-clause-answered g c =
     let got = c.read.new.buf.items in
     let reply = c.in_ok-source_reply-in-Ok.field-0 in
-    let fits : Fits (source_answer got) reply.status reply.text.items = search rules in
+    let fits : SourceAnswer got reply.status reply.text.items = search rules in
     let told : FitsTold (g.H.Shelf.files c.args.shelf.now) c.args.name.now 4194304 (Ok c.in-Ok.field-0) got = search rules in
     record { content = Some got; told = read-told c.in-Ok.field-0 (g.H.Shelf.files c.args.shelf.now) c.args.name.now got 4194304 told; fits = fits }
 

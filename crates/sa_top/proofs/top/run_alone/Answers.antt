@@ -1,4 +1,6 @@
-use Rattle.sa_top.proofs.GrammarLaws.{reads_units}
+use Rattle.std.proofs.Common.{rules}
+use Rattle.sa_top.proofs.AnswerLaws.{reads-same, one_answer}
+use Rattle.sa_top.proofs.CompleteLaws.{completes}
 use Rattle.sa_top.proofs.SoundLaws as laws
 use Rattle.sa_top.proofs.OutputLemmas.{unread-answers, starved-answers}
 use Rattle.sa_top.proofs.top.run_alone.Goals as goal
@@ -27,11 +29,23 @@ returns-in-Err-NoMemory-clause-sound g c = laws.sound
 pub returns-in-Err-NoMemory-clause-short : goal.returns-in-Err-NoMemory-clause-short
 returns-in-Err-NoMemory-clause-short g c = laws.short
 
-pub returns-in-Ok-clause-grammar : goal.returns-in-Ok-clause-grammar
-returns-in-Ok-clause-grammar g c = reads_units
+pub returns-in-Ok-clause-read_once : goal.returns-in-Ok-clause-read_once
+returns-in-Ok-clause-read_once g c = reads-same
 
-pub returns-in-Err-Unread-clause-grammar : goal.returns-in-Err-Unread-clause-grammar
-returns-in-Err-Unread-clause-grammar g c = reads_units
+pub returns-in-Ok-clause-answered_once : goal.returns-in-Ok-clause-answered_once
+returns-in-Ok-clause-answered_once g c = one_answer
 
-pub returns-in-Err-NoMemory-clause-grammar : goal.returns-in-Err-NoMemory-clause-grammar
-returns-in-Err-NoMemory-clause-grammar g c = reads_units
+pub returns-in-Err-Unread-clause-read_once : goal.returns-in-Err-Unread-clause-read_once
+returns-in-Err-Unread-clause-read_once g c = reads-same
+
+pub returns-in-Err-Unread-clause-answered_once : goal.returns-in-Err-Unread-clause-answered_once
+returns-in-Err-Unread-clause-answered_once g c = one_answer
+
+pub returns-in-Err-NoMemory-clause-read_once : goal.returns-in-Err-NoMemory-clause-read_once
+returns-in-Err-NoMemory-clause-read_once g c = reads-same
+
+pub returns-in-Err-NoMemory-clause-answered_once : goal.returns-in-Err-NoMemory-clause-answered_once
+returns-in-Err-NoMemory-clause-answered_once g c = one_answer
+
+pub returns-in-Ok-clause-complete : goal.returns-in-Ok-clause-complete
+returns-in-Ok-clause-complete g c = completes _ _ _ _ _ _ _ _ (search rules) (search rules) (search rules)

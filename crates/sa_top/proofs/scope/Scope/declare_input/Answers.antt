@@ -1,5 +1,5 @@
 use Rattle.std.proofs.Common.{◌∙◌, sym}
-use Rattle.sa_top.specs.Reading.{Scope}
+use Rattle.sa_top.specs.Scopes.{Scope}
 use Rattle.sa_top.proofs.ScopeLemmas.{at_ok, input_noted}
 use Rattle.sa_top.proofs.scope.Scope.declare_input.Goals as goal
 
