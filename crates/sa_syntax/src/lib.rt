@@ -5,6 +5,7 @@
 #![tactic(auto)]
 
 mod decl;
+mod display;
 mod expr;
 mod laws;
 mod stmt;
