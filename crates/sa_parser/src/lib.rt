@@ -5,6 +5,8 @@
 #![tactic(auto)]
 
 mod cursor;
+#[cfg(test)]
+mod display_tests;
 mod expr;
 mod fault;
 mod names;

@@ -134,12 +134,12 @@ bounds-returns t c =
 pub ranked-returns-in_err-value : goal.ranked-returns-in_err-value
 ranked-returns-in_err-value t c =
     let h : (s : Stop) (us : List Token) → unary c.args.self.now.names.now c.args.room (inside c.args.self.now.names.now c.args.room) c.args.tokens.now ≡ stopped s us → ranked c.args.self.now.names.now c.args.room (inside c.args.self.now.names.now c.args.room) c.args.level c.args.tokens.now ≡ stopped s us =
-      λ s us e. refused_above c.args.self.now.names.now c.args.room (inside c.args.self.now.names.now c.args.room) 0 c.args.level c.args.tokens.now s us (omega arith) (ranked_tightest c.args.self.now.names.now c.args.room (inside c.args.self.now.names.now c.args.room) c.args.tokens.now ∙ e) in
+    λ s us e. refused_above c.args.self.now.names.now c.args.room (inside c.args.self.now.names.now c.args.room) 0 c.args.level c.args.tokens.now s us (omega arith) (ranked_tightest c.args.self.now.names.now c.args.room (inside c.args.self.now.names.now c.args.room) c.args.tokens.now ∙ e) in
     first_of (search (rules, h), grind (arith, common_steps, h))
 
 pub ranked-returns-in_err-links : goal.ranked-returns-in_err-links
 ranked-returns-in_err-links t c =
     let one = ranked_next c.args.self.now.names.now c.args.room (inside c.args.self.now.names.now c.args.room) c.loop-below.below c.args.tokens.now in
     let h : (s : Stop) (us : List Token) → ranked c.args.self.now.names.now c.args.room (inside c.args.self.now.names.now c.args.room) (c.loop-below.below + 1) c.args.tokens.now ≡ stopped s us → ranked c.args.self.now.names.now c.args.room (inside c.args.self.now.names.now c.args.room) c.args.level c.args.tokens.now ≡ stopped s us =
-      λ s us e. refused_above c.args.self.now.names.now c.args.room (inside c.args.self.now.names.now c.args.room) (c.loop-below.below + 1) c.args.level c.args.tokens.now s us (omega arith) e in
+    λ s us e. refused_above c.args.self.now.names.now c.args.room (inside c.args.self.now.names.now c.args.room) (c.loop-below.below + 1) c.args.level c.args.tokens.now s us (omega arith) e in
     first_of (search (rules, h), grind (arith, common_steps, h))
