@@ -1,16 +1,14 @@
 -- Statements as the parser reads them: of a directive first the brackets, then what stands after them.
-use Rattle.std.proofs.Common.{◌≡◌, ℕ, ◌-◌, List, refl, sym, ap, ◌∙◌}
+use Rattle.std.proofs.Common.{◌≡◌, ℕ, ◌-◌, List, refl, ap, ◌∙◌}
 use Rattle.sa_base.specs.declared.pos.Pos.{Pos}
 use Rattle.sa_tokens.specs.declared.token.Token.{Token}
 use Rattle.sa_tokens.specs.declared.punct.Punct.TheVariants as m
-use Rattle.sa_syntax.specs.declared.expr.Expr.{Expr}
 use Rattle.sa_syntax.specs.declared.stmt.Directive.{Directive}
 use Rattle.sa_syntax.specs.declared.stmt.Directive.TheVariants as d
-use Rattle.sa_syntax.specs.declared.stmt.Stmt.{Stmt}
 use Rattle.sa_syntax.specs.declared.stmt.Stmt.TheVariants as s
 use Rattle.sa_syntax.specs.Trees.{pos_of}
 use Rattle.sa_syntax.specs.Words.{Names}
-use Rattle.sa_syntax.specs.Reading.{Parser, Read, Got, Stuck, Deep, and_then, pure, opens, expect}
+use Rattle.sa_syntax.specs.Reading.{Read, Got, Stuck, Deep, and_then, pure, opens, expect}
 use Rattle.sa_syntax.specs.ReadStmt.{takes, bare, with_expr, ended, double_bracket, Bodies, break, return}
 use Rattle.sa_parser.specs.Parts as parts
 

@@ -1,5 +1,5 @@
 -- What is read by the first token: an operand, and what stands after `struct`.
-use Rattle.std.proofs.Common.{◌≡◌, ℕ, List, [], ◌∷◌, refl, Bool, true, false, cond}
+use Rattle.std.proofs.Common.{◌≡◌, ℕ, List, [], ◌∷◌, refl, Bool, true}
 use Rattle.std.specs.Prelude.{Option, Some, None, ◌&&◌, if◌then◌else◌}
 use Rattle.sa_base.specs.declared.pos.Pos.{Pos}
 use Rattle.sa_tokens.specs.declared.punct.Punct.{Punct}
@@ -12,7 +12,7 @@ use Rattle.sa_tokens.specs.declared.punct.Punct.TheVariants as m
 use Rattle.sa_syntax.specs.declared.decl.Name.{Name as Named}
 use Rattle.sa_syntax.specs.declared.decl.Base.{Base}
 use Rattle.sa_syntax.specs.declared.decl.Base.TheVariants as b
-use Rattle.sa_syntax.specs.Reading.{Read, Got, Parser, and_then, taken, sees, any_name, mark_at, name_at}
+use Rattle.sa_syntax.specs.Reading.{Got, Parser, and_then, taken, sees, any_name, mark_at, name_at}
 use Rattle.sa_syntax.specs.ReadExpr.{Inner, is_some, unary, unary_mark, a_place, body, tagged, struct_or_tag}
 use Rattle.sa_syntax.specs.declared.decl.Qualified.{Qualified}
 use Rattle.sa_syntax.specs.declared.decl.Struct.{Struct}

@@ -1,9 +1,9 @@
 -- Levels of operators one after another: what is refused at one level is refused at each looser one.
-use Rattle.std.proofs.Common.{◌≡◌, ℕ, zero, suc, ◌+◌, ◌-◌, ◌≤◌, List, refl, ap, ◌∙◌, sym, subst, arith}
+use Rattle.std.proofs.Common.{◌≡◌, ℕ, zero, suc, ◌+◌, ◌-◌, ◌≤◌, List, refl, ◌∙◌, subst, arith}
 use Rattle.sa_tokens.specs.declared.token.Token.{Token}
 use Rattle.sa_syntax.specs.declared.expr.Expr.{Expr}
 use Rattle.sa_syntax.specs.Words.{Names}
-use Rattle.sa_syntax.specs.Reading.{Read, Got, Stuck, Deep, and_then, many}
+use Rattle.sa_syntax.specs.Reading.{Read, Got, and_then, many}
 use Rattle.sa_syntax.specs.ReadExpr.{Inner, ranked, chain, a_link, chained, sees_operator, unary}
 use Rattle.sa_parser.specs.declared.fault.Stop.{Stop}
 use Rattle.sa_parser.specs.declared.fault.Stop.TheVariants.{Syntax, TooDeep, OutOfMemory}

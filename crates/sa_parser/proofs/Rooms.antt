@@ -1,9 +1,9 @@
 -- The readers one deeper, where one more may be open.
-use Rattle.std.proofs.Common.{◌≡◌, ℕ, zero, suc, ◌-◌, ◌≤◌, List, refl, sym, ap, ◌∙◌, arith}
+use Rattle.std.proofs.Common.{◌≡◌, ℕ, zero, suc, ◌-◌, ◌≤◌, List, refl, ap, ◌∙◌, arith}
 use Rattle.sa_tokens.specs.declared.token.Token.{Token}
 use Rattle.sa_syntax.specs.Words.{Names}
-use Rattle.sa_syntax.specs.Reading.{Parser, Read}
-use Rattle.sa_syntax.specs.ReadExpr.{Inner, inside, layer}
+use Rattle.sa_syntax.specs.Reading.{Parser}
+use Rattle.sa_syntax.specs.ReadExpr.{inside, layer}
 use Rattle.sa_syntax.specs.ReadStmt.{within, init_at, init_by, bodies, stmt, block_items, groups, no_stmt}
 
 inside_at : (ns : Names) (n : ℕ) → inside ns (suc n) ≡ layer ns n (inside ns n)

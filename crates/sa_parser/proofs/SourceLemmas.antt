@@ -1,5 +1,5 @@
 -- Items of a source one after another, and what the reader's answer says of the grammar.
-use Rattle.std.proofs.Common.{◌≡◌, ℕ, zero, suc, ◌+◌, ◌-◌, ◌<◌, ◌≤◌, List, [], ◌∷◌, ◌++◌, Bool, true, false, refl, sym, ap, ◌∙◌, arith, inl, inr}
+use Rattle.std.proofs.Common.{◌≡◌, ℕ, zero, suc, ◌≤◌, List, [], ◌∷◌, ◌++◌, true, false, refl, sym, ap, ◌∙◌, arith, inl, inr}
 use Rattle.std.specs.Prelude.{◌≢◌, ◌⊎◌, slice_get}
 use Rattle.sa_base.specs.declared.pos.Pos.{Pos}
 use Rattle.sa_parser.specs.declared.fault.Stop.{Stop}
@@ -10,11 +10,10 @@ use Rattle.sa_tokens.specs.declared.token.Token.{Token}
 use Rattle.sa_syntax.specs.declared.unit.Item.{Item}
 use Rattle.sa_syntax.specs.declared.unit.Unit.{Unit as Source}
 use Rattle.sa_syntax.specs.Words.{Names}
-use Rattle.sa_syntax.specs.Statements.{Tree}
 use Rattle.sa_syntax.specs.Reading.{Read, Got, Stuck, Deep, and_then, turns}
 use Rattle.sa_syntax.specs.ReadStmt.{an_item, names_after, items_from, source}
 use Rattle.sa_syntax.specs.Trees as tree
-use Rattle.sa_syntax.specs.Refusals.{most_open, IsSource, HasNoTree, IsTooDeep, IsPlaceOf}
+use Rattle.sa_syntax.specs.Refusals.{most_open, HasNoTree, IsTooDeep, IsPlaceOf}
 use Rattle.sa_syntax.specs.SoundLaws.{MoreRoomReadsTheSameSource}
 use Rattle.sa_syntax.specs.StmtLaws.{ReadsSources}
 use Rattle.sa_syntax.specs.RefusalLaws.{TellsDepth}

@@ -6,7 +6,7 @@ use Rattle.sa_tokens.specs.declared.token.Token.{Token}
 use Rattle.sa_syntax.specs.declared.expr.Expr.{Expr}
 use Rattle.sa_syntax.specs.declared.expr.Expr.TheVariants as e
 use Rattle.sa_syntax.specs.Trees.{pos_of}
-use Rattle.sa_syntax.specs.Reading.{Read, Got, Stuck, Parser, after}
+use Rattle.sa_syntax.specs.Reading.{Got, Stuck, Parser, after}
 
 abbrev pub Literal : Type 0
 Literal = ℕ × Bool × ℕ × Bool

@@ -1,5 +1,5 @@
 -- What a set of names has.
-use Rattle.std.specs.Prelude.{ℕ, ◌≡◌, List, Bool, Vec, reverse}
+use Rattle.std.specs.Prelude.{ℕ, ◌≡◌, List, Bool, Vec}
 use Rattle.std.specs.Ordering.{nat_cmp}
 use Rattle.std.specs.Option.{is_some}
 use Rattle.std.specs.Cmp.Lexicographic.{slice_cmp}

@@ -13,17 +13,14 @@ use Rattle.sa_syntax.specs.declared.stmt.Stmt.{Stmt}
 use Rattle.sa_syntax.specs.declared.stmt.Stmt.TheVariants as s
 use Rattle.sa_syntax.specs.declared.stmt.BlockItem.{BlockItem}
 use Rattle.sa_syntax.specs.declared.stmt.Block.{Block}
-use Rattle.sa_syntax.specs.declared.decl.Name.{Name}
 use Rattle.sa_syntax.specs.declared.decl.Struct.{Struct}
-use Rattle.sa_syntax.specs.declared.unit.Param.{Param}
 use Rattle.sa_syntax.specs.declared.unit.Item.{Item}
 use Rattle.sa_syntax.specs.declared.unit.Item.TheVariants as top
 use Rattle.sa_syntax.specs.Trees as tree
 use Rattle.sa_syntax.specs.Trees.{pos_of}
-use Rattle.sa_syntax.specs.ReadExpr as read
 use Rattle.sa_syntax.specs.ReadStmt as stmt
 use Rattle.sa_syntax.specs.Words.{Names, begins_with_label, begins_with_star}
-use Rattle.sa_syntax.specs.Reading.{Parser, ◌>>=◌, ◌>>◌, Got, pure, refuse, expect, opens, any_name, name_at, sees, after, key_at}
+use Rattle.sa_syntax.specs.Reading.{Parser, ◌>>=◌, ◌>>◌, Got, pure, refuse, expect, opens, sees, after, key_at}
 use Rattle.sa_syntax.specs.ReadStmt.{takes, within, double_bracket, outermost, bodies, specifiers, expr, place, simple, call, assigned, sees_call, expr_before}
 
 -- a directive's word and two pairs of brackets

@@ -1,7 +1,7 @@
 -- The grammar of expressions, places and types, one case for each alternative. `Whole ns n ts e us` says that `ts` is the
 -- tokens of the expression `e` and then `us`, where `ns` are the type names so far and at most `n` more brackets, prefix
 -- operators, choices and statements may be open at a token.
-use Rattle.std.specs.Prelude.{ℕ, zero, suc, ◌≡◌, List, [], ◌∷◌, Bool, true, false, Option, Some, None}
+use Rattle.std.specs.Prelude.{ℕ, zero, suc, ◌≡◌, List, [], ◌∷◌, Bool, true, false, Some, None}
 use Rattle.sa_base.specs.declared.pos.Pos.{Pos}
 use Rattle.sa_tokens.specs.declared.keyword.Keyword.{Keyword}
 use Rattle.sa_tokens.specs.declared.keyword.Keyword.TheVariants as k
@@ -17,7 +17,6 @@ use Rattle.sa_syntax.specs.declared.expr.Expr.{Expr}
 use Rattle.sa_syntax.specs.declared.expr.Expr.TheVariants as e
 use Rattle.sa_syntax.specs.declared.expr.Operator.{Operator}
 use Rattle.sa_syntax.specs.declared.expr.Prefix.{Prefix}
-use Rattle.sa_syntax.specs.declared.expr.PlaceBase.{PlaceBase}
 use Rattle.sa_syntax.specs.declared.expr.PlaceBase.TheVariants as at
 use Rattle.sa_syntax.specs.declared.expr.Step.{Step}
 use Rattle.sa_syntax.specs.declared.expr.Step.TheVariants as step

@@ -1,11 +1,9 @@
 -- Expressions, places and types read from the front, one token ahead.
 use Rattle.std.specs.Prelude.{ℕ, zero, suc, ◌==◌, List, [], ◌∷◌, ◌||◌, not, Bool, true, false, if◌then◌else◌, Option, Some, None}
-use Rattle.sa_base.specs.declared.pos.Pos.{Pos}
 use Rattle.sa_tokens.specs.declared.keyword.Keyword.{Keyword}
 use Rattle.sa_tokens.specs.declared.keyword.Keyword.TheVariants as k
 use Rattle.sa_tokens.specs.declared.punct.Punct.{Punct}
 use Rattle.sa_tokens.specs.declared.punct.Punct.TheVariants as m
-use Rattle.sa_tokens.specs.declared.token.Word.{Word}
 use Rattle.sa_tokens.specs.declared.token.Word.TheVariants.{Name, Number, Key, Mark}
 use Rattle.sa_tokens.specs.declared.token.Token.{Token}
 use Rattle.sa_syntax.specs.declared.decl.Name.{Name as Named}
@@ -29,7 +27,7 @@ use Rattle.sa_syntax.specs.declared.expr.Step.{Step}
 use Rattle.sa_syntax.specs.declared.expr.Step.TheVariants as step
 use Rattle.sa_syntax.specs.Trees as tree
 use Rattle.sa_syntax.specs.Words.{Names, is_type_name, is_through, prefix_of, operator_of, level_of, loosest, qualifier_of, scalar_of}
-use Rattle.sa_syntax.specs.Reading.{Parser, Read, Got, Stuck, Deep, ◌>>=◌, ◌>>◌, pure, refuse, sees, after, expect, opens_any, opens, any_name, variable, name_at, key_at, mark_at, taken, many, turns, while_from}
+use Rattle.sa_syntax.specs.Reading.{Parser, Read, Got, Stuck, Deep, ◌>>=◌, ◌>>◌, pure, refuse, sees, after, expect, opens_any, opens, any_name, variable, name_at, key_at, mark_at, taken, many}
 
 -- ---- words of types
 abbrev pub qualifier_in : Option Keyword → Option Qualifier

@@ -48,9 +48,9 @@ use Rattle.sa_syntax.specs.declared.unit.Item.{Item}
 use Rattle.sa_syntax.specs.declared.unit.Item.TheVariants as top
 use Rattle.sa_syntax.specs.declared.unit.Unit.{Unit as Source}
 use Rattle.sa_syntax.specs.Trees as tree
-use Rattle.sa_syntax.specs.Words.{Names, named, compound_of, turn_of, begins_with_star, begins_with_else, begins_with_label, is_void_alone}
+use Rattle.sa_syntax.specs.Words.{Names, compound_of, turn_of, begins_with_star, begins_with_else, begins_with_label, is_void_alone}
 use Rattle.sa_syntax.specs.Statements.{all_named}
-use Rattle.sa_syntax.specs.Reading.{Parser, Read, Got, Stuck, Deep, ◌>>=◌, ◌>>◌, pure, refuse, sees, after, expect, opens, any_name, variable, name_at, key_at, mark_at, unless_type, taken, many, turns}
+use Rattle.sa_syntax.specs.Reading.{Parser, Got, Stuck, Deep, ◌>>=◌, ◌>>◌, pure, refuse, sees, after, expect, opens, any_name, variable, name_at, key_at, mark_at, unless_type, many, turns}
 use Rattle.sa_syntax.specs.ReadExpr as read
 use Rattle.sa_syntax.specs.ReadExpr.{is_some, begins_type, inside}
 

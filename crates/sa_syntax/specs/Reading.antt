@@ -1,5 +1,5 @@
 -- What reading from the front answers, and the steps that every rule of the reader is made of.
-use Rattle.std.specs.Prelude.{ℕ, zero, suc, ◌==◌, List, [], ◌∷◌, ◌++◌, ◌&&◌, not, Bool, true, false, if◌then◌else◌, length, Option, Some, None}
+use Rattle.std.specs.Prelude.{ℕ, zero, suc, List, [], ◌∷◌, ◌++◌, Bool, false, if◌then◌else◌, length, Option, Some, None}
 use denote.Enum.Bare.{sameb}
 use Rattle.sa_tokens.specs.contracts.punct.Punct.{the_type}
 use Rattle.sa_base.specs.declared.pos.Pos.{Pos}

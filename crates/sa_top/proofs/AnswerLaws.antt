@@ -1,5 +1,5 @@
 -- A source has one answer.
-use Rattle.std.proofs.Common.{◌≡◌, ℕ, List, [], refl, ap, sym, subst, ◌∙◌, arith, inl, inr, ◌⊎◌, ⊎_elim}
+use Rattle.std.proofs.Common.{◌≡◌, ℕ, List, [], ◌∷◌, append_assoc, refl, ap, sym, subst, ◌∙◌, arith, inl, inr, ◌⊎◌, ⊎_elim}
 use Rattle.sa_base.specs.declared.pos.Pos.{Pos}
 use Rattle.sa_base.specs.declared.status.Status.{Status}
 use Rattle.sa_base.specs.declared.status.Status.TheVariants as s
@@ -28,7 +28,9 @@ syntax-no_source : (ts : List Token) (end p : Pos) (u : Source) → IsFault ts e
 syntax-no_source ts end p u h k = h.0 most_open u k
 
 deep-no_source : (ts : List Token) (end p : Pos) (u : Source) → IsFault ts end (TooDeep p) → IsSource ts u → ⊥
-deep-no_source ts end p u h k = h.0 u k
+deep-no_source ts end p u h k =
+    let d = h.0 in
+    d.none d.after u (subst (λ (us : List Token). IsSource us u) (d.is ∙ sym (append_assoc d.before (d.token ∷ []) d.after)) k)
 
 -- ---- refusals by the tokens
 abbrev fault_text : TokenFault → List ℕ

@@ -1,6 +1,6 @@
 use Rattle.std.proofs.Common.{rules, arith}
 use Rattle.std.proofs.lemmas.Grind.{common_steps}
-use Rattle.sa_syntax.specs.Reading.{many, while_from}
+use Rattle.sa_syntax.specs.Reading.{while_from}
 use Rattle.sa_syntax.specs.ReadExpr.{sees_scalar, scalar_word}
 use Rattle.sa_parser.proofs.Turns.{one_more, no_more}
 use Rattle.sa_parser.proofs.expr.more_words.Goals as goal

@@ -1,7 +1,5 @@
-use Rattle.std.proofs.Common.{rules, arith, ◌≡◌, ◌∙◌, sym, ap, List}
+use Rattle.std.proofs.Common.{rules, arith}
 use Rattle.std.proofs.lemmas.Grind.{common_steps}
-use Rattle.sa_syntax.specs.Reading.{turns}
-use Rattle.sa_syntax.specs.ReadStmt.{items_from}
 use Rattle.sa_syntax.specs.Refusals.{most_open}
 use Rattle.sa_parser.proofs.SourceLemmas.{source_got, refused, token_place}
 use Rattle.sa_parser.proofs.source.parse.Goals as goal

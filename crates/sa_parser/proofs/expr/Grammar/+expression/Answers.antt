@@ -1,7 +1,7 @@
 use Rattle.std.proofs.Common.{rules, arith, ◌+◌, ◌-◌, ◌≡◌, ◌∙◌, List}
 use Rattle.std.proofs.lemmas.Grind.{common_steps}
 use Rattle.sa_tokens.specs.declared.punct.Punct.TheVariants as m
-use Rattle.sa_syntax.specs.Reading.{many, while_from, sees}
+use Rattle.sa_syntax.specs.Reading.{while_from, sees}
 use Rattle.sa_syntax.specs.ReadExpr as read
 use Rattle.sa_syntax.specs.ReadExpr.{inside, steps, ranked, unary}
 use Rattle.sa_tokens.specs.declared.token.Token.{Token}

@@ -1,8 +1,5 @@
 use Rattle.std.proofs.Common.{rules, arith}
 use Rattle.std.proofs.lemmas.Grind.{common_steps}
-use Rattle.std.specs.Prelude.{[]}
-use Rattle.sa_tokens.specs.declared.punct.Punct.TheVariants as m
-use Rattle.sa_syntax.specs.Reading.{turns}
 use Rattle.sa_syntax.specs.ReadStmt as stmt
 use Rattle.sa_syntax.specs.ReadStmt.{inits_from}
 use Rattle.sa_parser.proofs.Turns.{one_more, no_more}

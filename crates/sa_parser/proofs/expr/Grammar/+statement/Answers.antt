@@ -1,6 +1,6 @@
 use Rattle.std.proofs.Common.{rules, arith}
 use Rattle.std.proofs.lemmas.Grind.{common_steps}
-use Rattle.sa_syntax.specs.Reading.{many, while_from}
+use Rattle.sa_syntax.specs.Reading.{while_from}
 use Rattle.sa_syntax.specs.ReadStmt as read
 use Rattle.sa_syntax.specs.ReadStmt.{bodies, no_close, block_items, groups, stmt}
 use Rattle.sa_syntax.specs.Words.{begins_with_label}

@@ -1,7 +1,5 @@
-use Rattle.std.proofs.Common.{◌≡◌, ◌-◌, ◌+◌, ◌*◌}
-use Rattle.std.specs.Prelude.{[]}
+use Rattle.std.proofs.Common.{◌≡◌, ◌-◌}
 use Rattle.sa_tokens.specs.declared.punct.Punct.TheVariants as m
-use Rattle.sa_syntax.specs.Reading.{turns}
 use Rattle.sa_syntax.specs.ReadStmt as stmt
 use Rattle.sa_parser.proofs.expr.Grammar.init_declrs.Given as goal
 

@@ -1,6 +1,6 @@
 use Rattle.std.proofs.Common.{rules, arith}
 use Rattle.std.proofs.lemmas.Grind.{common_steps}
-use Rattle.sa_syntax.specs.Reading.{many, while_from}
+use Rattle.sa_syntax.specs.Reading.{while_from}
 use Rattle.sa_syntax.specs.ReadStmt.{a_label}
 use Rattle.sa_syntax.specs.Words.{begins_with_label}
 use Rattle.sa_parser.proofs.Turns.{one_more, no_more}
