@@ -1,0 +1,4 @@
+//! Typing: from the syntax tree to the typed program, or the first refusal.
+//!
+//! It stands on `sa_syntax` and `sa_typed`.
+#![tactic(auto)]
