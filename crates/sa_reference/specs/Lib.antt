@@ -1,0 +1,10 @@
+pub mod Domain
+pub mod Passes
+pub mod Steps
+pub mod Reference
+pub mod Operators
+pub mod Environments
+pub mod Values
+pub mod Assignments
+pub mod Intervals
+pub mod Sound
