@@ -8,6 +8,7 @@ use Rattle.sa_typed.specs.Arithmetic.{operate, converted, is_of}
 use Rattle.sa_typed.specs.Layouts.{nums, index_of, layout_of, num_in}
 use Rattle.sa_typed.specs.Evaluation.{End, Clock, Blocked, Tape, Going, Value, Gives, Stops, then_value, given, Store, Setting, Here, place_of, eval, access_place}
 use Rattle.sa_typed.specs.declared.expr.Expr.{Expr}
+use Rattle.sa_typed.specs.declared.expr.Operator.{Operator}
 use Rattle.sa_typed.specs.declared.shape.Part.{Part}
 use Rattle.sa_typed.specs.declared.shape.Part.TheVariants.{At, Field}
 use Rattle.sa_typed.specs.declared.stmt.Start.{Start}
@@ -143,32 +144,27 @@ abbrev pub converted_value : Setting → Here → Store → Num → Pos → Expr
 converted_value w here st num p e tape = then_value (eval w here st e tape) (λ z tape. given p (converted num z) tape)
 
 -- a local at its declaration: any value of its type where nothing is said (ISO C 6.7.8p10), which is one entry's own
-unfoldable pub run_declare : Program → Setting → List Pos → ℕ → Start → State → Result
-run_declare p w path v begins.Any st =
-    with_value st (any_numbers (nums (layout_of p v)) st.tape) (λ zs st. Goes (with_store st (filled p (here_in path st) v zs st.store)))
-run_declare p w path v (begins.Value q e) st =
-    with_value st (converted_value w (here_in path st) st.store (num_in (layout_of p v)) q e st.tape) (λ z st. Goes (with_store st (stored (place_of (here_in path st) v []) z st.store)))
-run_declare p w path v begins.Items st = Goes (with_store st (filled p (here_in path st) v (initial_of (slice_get p.vars v)) st.store))
+unfoldable pub declare_value : Program → Setting → Here → ℕ → Start → Store → List ℤ → Value Store
+declare_value p w here v begins.Any st tape = then_value (any_numbers (nums (layout_of p v)) tape) (λ zs tape. Gives (filled p here v zs st) tape)
+declare_value p w here v (begins.Value q e) st tape =
+    then_value (converted_value w here st (num_in (layout_of p v)) q e tape) (λ z tape. Gives (stored (place_of here v []) z st) tape)
+declare_value p w here v begins.Items st tape = Gives (filled p here v (initial_of (slice_get p.vars v)) st) tape
 
 -- an operator on the number of a place, converted back to the place's type; both errors stand at the operator
 -- (ISO C 6.5.16.2p3: the place is evaluated once)
-abbrev pub compound_value : Setting → Here → Store → Num → (ℤ → ℤ → List ℤ → Value ℤ) → Pos → ℤ → Expr → List ℤ → Value ℤ
-compound_value w here st num apply p x e tape =
-    then_value (eval w here st e tape) (λ y tape. then_value (apply x y tape) (λ z tape. given p (converted num z) tape))
+abbrev pub compound_value : Setting → Here → Store → Num → Operator → Num → Pos → ℤ → Expr → List ℤ → Value ℤ
+compound_value w here st num op work q x e tape =
+    then_value (eval w here st e tape) (λ y tape. then_value (given q (operate op work x y) tape) (λ z tape. given q (converted num z) tape))
 
--- the indices of the left side come first, then the right side
-unfoldable pub run_simple : Program → Setting → List Pos → Simple → State → Result
-run_simple p w path (Declare v s) st = run_declare p w path v s st
-run_simple p w path (Assign x num q e) st =
-    with_value st (access_place w (here_in path st) st.store x st.tape) (λ a st.
-        with_value st (converted_value w (here_in path st) st.store num q e st.tape) (λ z st. Goes (with_store st (stored a z st.store))))
-run_simple p w path (Compound x num op q work e) st =
-    with_value st (access_place w (here_in path st) st.store x st.tape) (λ a st.
-        with_value st (compound_value w (here_in path st) st.store num (λ x y tape. given q (operate op work x y) tape) q (st.store a) e st.tape) (λ z st.
-            Goes (with_store st (stored a z st.store))))
-run_simple p w path (Copy k x q y) st =
-    with_value st (access_place w (here_in path st) st.store x st.tape) (λ a st.
-        with_value st (access_place w (here_in path st) st.store y st.tape) (λ b st. Goes (with_store st (copied a b st.store))))
+-- the store after a simple statement. The indices of the left side come first, then the right side
+unfoldable pub simple_value : Program → Setting → Here → Simple → Store → List ℤ → Value Store
+simple_value p w here (Declare v s) st tape = declare_value p w here v s st tape
+simple_value p w here (Assign x num q e) st tape =
+    then_value (access_place w here st x tape) (λ a tape. then_value (converted_value w here st num q e tape) (λ z tape. Gives (stored a z st) tape))
+simple_value p w here (Compound x num op q work e) st tape =
+    then_value (access_place w here st x tape) (λ a tape. then_value (compound_value w here st num op work q (st a) e tape) (λ z tape. Gives (stored a z st) tape))
+simple_value p w here (Copy k x q y) st tape =
+    then_value (access_place w here st x tape) (λ a tape. then_value (access_place w here st y tape) (λ b tape. Gives (copied a b st) tape))
 
 -- ---- loops
 -- a visit is recorded where one is left
@@ -202,7 +198,7 @@ clock_turn max_clock (Over r) = Ended r
 -- ---- statements
 unfoldable mutual
   pub run : Program → Setting → List Pos → Stmt → State → Result
-  run p w path (Stmt.Simple s) st = run_simple p w path s st
+  run p w path (Stmt.Simple s) st = with_value st (simple_value p w (here_in path st) s st.store st.tape) (λ store st. Goes (with_store st store))
   run p w path (Stmt.Block' n all) st = run_all p w path all st
   run p w path (Stmt.Clock' q n all) st =
       turns (record { path = path; place = q }) (λ st. clock_turn w.max_clock (run_all p w path all st)) st.left st

@@ -1,0 +1,4 @@
+pub mod Laws
+pub mod PassLaws
+pub mod StepLaws
+pub mod RunLaws
