@@ -19,8 +19,8 @@ use Rattle.sa_typed.specs.declared.stmt.Simple.TheVariants.{Declare, Assign, Com
 use Rattle.sa_typed.specs.declared.program.Program.{Program}
 use Rattle.sa_reference.specs.declared.flat.Flat.{Flat}
 use Rattle.sa_reference.specs.Passes.{alive_then}
-use Rattle.sa_reference.specs.Operators.{range_of, converted_span, conversion_alarms, operator_span, operator_alarms}
-use Rattle.sa_reference.specs.Environments.{put, items_span}
+use Rattle.sa_reference.specs.Operators.{converted_span, conversion_alarms, operator_span, operator_alarms}
+use Rattle.sa_reference.specs.Environments.{put, cell_range, items_span}
 use Rattle.sa_reference.specs.Values.{named, cell_span, joined, span_of, alarms_of, access_cells, access_alarms, linked, with_one, with_both}
 
 -- ---- cells that are changed
@@ -65,7 +65,7 @@ abbrev pub value_as : Num → Option Span → Option Span
 value_as num o = alive_then o (converted_span num)
 
 unfoldable pub declare_of : Program → Setting → ℕ → Start → Flat → Option Flat
-declare_of p w v begins.Any env = Some (with_cells env (set_cells (λ c. range_of c.num) v (cells p) env.cells))
+declare_of p w v begins.Any env = Some (with_cells env (set_cells cell_range v (cells p) env.cells))
 declare_of p w v (begins.Value q a) env = assign_to p env (Some (named p v [])) (value_as (num_in (layout_of p v)) (span_of p w env a))
 declare_of p w v begins.Items env = Some (with_cells env (set_cells (items_span p) v (cells p) env.cells))
 

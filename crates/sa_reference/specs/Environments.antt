@@ -37,9 +37,12 @@ put zero a (b ∷ bs) = a ∷ bs
 put (suc c) a (b ∷ bs) = b ∷ put c a bs
 
 -- ---- tops
+unfoldable pub cell_range : Cell → Span
+cell_range c = range_of c.num
+
 unfoldable pub ranges : List Cell → List Span
 ranges [] = []
-ranges (c ∷ cs) = range_of c.num ∷ ranges cs
+ranges (c ∷ cs) = cell_range c ∷ ranges cs
 
 abbrev pub whole_clock : ℤ → Span
 whole_clock max_clock = record { lo = pos 0; hi = max_clock }
@@ -65,7 +68,7 @@ initial_span zs l (s ∷ ss) at = single (pos 0)
 abbrev pub initial_values : Program → ℕ → List ℤ
 initial_values p v = initial_of (slice_get p.vars v)
 
-abbrev pub items_span : Program → Cell → Span
+unfoldable pub items_span : Program → Cell → Span
 items_span p c = initial_span (initial_values p c.var) (layout_of p c.var) c.steps 0
 
 -- a local may be anything before its declaration
@@ -75,7 +78,7 @@ is_local_var (Some v) = is_local v.home
 
 unfoldable pub initial_spans : Program → List Cell → List Span
 initial_spans p [] = []
-initial_spans p (c ∷ cs) = (if is_local_var (slice_get p.vars c.var) then range_of c.num else items_span p c) ∷ initial_spans p cs
+initial_spans p (c ∷ cs) = (if is_local_var (slice_get p.vars c.var) then cell_range c else items_span p c) ∷ initial_spans p cs
 
 abbrev pub initial_env : Program → Flat
 initial_env p = record { clock = single (pos 0); cells = initial_spans p (cells p) }

@@ -7,4 +7,5 @@ pub mod Environments
 pub mod Values
 pub mod Assignments
 pub mod Intervals
+pub mod Fair
 pub mod Sound

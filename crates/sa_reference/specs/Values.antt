@@ -20,23 +20,20 @@ use Rattle.sa_typed.specs.declared.expr.Operator.{Operator}
 use Rattle.sa_typed.specs.declared.expr.Step.{Step, At', Field}
 use Rattle.sa_typed.specs.declared.program.Program.{Program}
 use Rattle.sa_reference.specs.declared.flat.Flat.{Flat}
+use Rattle.sa_reference.specs.declared.reach.Reach.{Reach}
+use Rattle.sa_reference.specs.declared.reach.Reach.TheVariants.{At, Into}
 use Rattle.sa_reference.specs.Passes.{alive_then}
 use Rattle.sa_reference.specs.Operators.{converted_span, conversion_alarms, operator_span, operator_alarms, prefix_span, prefix_alarms, alarm_if}
 
 -- ---- places
--- a step that an access may take: to the elements with these indices, or to a field
-pub data Reach : Type 0 where
-  at : Span → Reach
-  into : ℕ → Reach
-
 -- the indices of an array
 abbrev pub indices : ℕ → Span
 indices n = record { lo = pos 0; hi = pos n -ℤ pos 1 }
 
 abbrev pub reaches_step : Reach → cell.Step → Bool
-reaches_step (at s) (one k) = int_le s.lo (pos k) && int_le (pos k) s.hi
-reaches_step (at s) (all n) = true
-reaches_step (into f) (of k) = f == k
+reaches_step (At s) (one k) = int_le s.lo (pos k) && int_le (pos k) s.hi
+reaches_step (At s) (all n) = true
+reaches_step (Into f) (of k) = f == k
 reaches_step _ _ = false
 
 -- a cell that stands there or inside of what stands there
@@ -78,7 +75,7 @@ abbrev pub linked : Operator → Num → Option Span → Option Span → Option 
 linked op num a b = alive_then a (λ a. alive_then b (λ b. operator_span op num a b))
 
 abbrev pub index_reach : ℕ → Option Span → Option Reach
-index_reach n i = alive_then i (λ i. option_map at (meet_of i (indices n)))
+index_reach n i = alive_then i (λ i. option_map At (meet_of i (indices n)))
 
 unfoldable mutual
   pub span_of : Program → Setting → Flat → Expr → Option Span
@@ -101,7 +98,7 @@ unfoldable mutual
 
   pub reach_of : Program → Setting → Flat → Step → Option Reach
   reach_of p w env (At' q n m (more_of-Expr a end_of-Expr)) = index_reach n (span_of p w env a)
-  reach_of p w env (Field f) = Some (into f)
+  reach_of p w env (Field f) = Some (Into f)
 
 -- ---- alarms: those of all parts, and of an operation whose operands have values
 abbrev pub index_alarms : Pos → ℕ → Span → List Alarm

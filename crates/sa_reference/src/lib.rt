@@ -6,5 +6,7 @@
 #![tactic(auto)]
 
 mod flat;
+mod reach;
 
 pub use flat::Flat;
+pub use reach::Reach;
