@@ -9,3 +9,4 @@ pub mod Assignments
 pub mod Intervals
 pub mod Fair
 pub mod Sound
+pub mod OperatorLaws
