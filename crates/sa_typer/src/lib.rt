@@ -2,3 +2,7 @@
 //!
 //! It stands on `sa_syntax` and `sa_typed`.
 #![tactic(auto)]
+
+mod unbuilt;
+
+pub use unbuilt::first_unbuilt;
