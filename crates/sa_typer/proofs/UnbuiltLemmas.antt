@@ -1,5 +1,5 @@
 -- The equation of each form of a tree, as code sees it, and the first place in a list, one step on and at its end.
-use Rattle.std.proofs.Common.{◌≡◌, ℕ, ◌+◌, ◌≤◌, ◌<◌, List, [], ◌∷◌, length, drop, get_or, refl, ap, sym, ◌∙◌, Option, Some, None}
+use Rattle.std.proofs.Common.{◌≡◌, ℕ, suc, ◌+◌, ◌-◌, ◌≤◌, ◌<◌, false, arith, List, [], ◌∷◌, length, drop, get_or, refl, ap, sym, ◌∙◌, Option, Some, None}
 use Rattle.std.proofs.lemmas.List.{drop_more, drop_all}
 use Rattle.sa_base.specs.declared.pos.Pos.{Pos}
 use Rattle.sa_syntax.specs.declared.decl.Name.{Name}
@@ -26,7 +26,7 @@ use Rattle.sa_syntax.specs.declared.expr.Prefix.{Prefix}
 use Rattle.sa_syntax.specs.declared.expr.Link.{Link}
 use Rattle.sa_syntax.specs.declared.expr.Place.{Place}
 use Rattle.sa_syntax.specs.declared.expr.Step.TheVariants as step
-use Rattle.sa_typer.specs.Unbuilt.{◌or◌, first_in, in_operator, in_expr, in_links, in_link, in_step, in_steps, in_place, in_base, in_specifiers, in_struct, in_fields, in_field, in_declrs, in_declr, in_bounds, in_bound, in_init, in_inits, in_simple, in_directive, in_local, in_stmt, in_item, in_row}
+use Rattle.sa_typer.specs.Unbuilt.{◌or◌, first_in, in_operator, in_expr, in_links, in_link, in_step, in_steps, in_place, in_base, in_specifiers, in_struct, in_fields, in_field, in_declrs, in_declr, in_bounds, in_bound, in_init, in_inits, in_simple, in_directive, in_local, in_stmt, in_item, in_row, is_wait, ends_with_wait}
 
 -- ---- lists
 next : {A : Type 0} (xs : List A) (i : ℕ) (x : A) → i < length xs → x ≡ get_or xs i x → drop i xs ≡ x ∷ drop (i + 1) xs
@@ -48,30 +48,30 @@ unfolding first_in
 first_end f all i h e = e ∙ ap (first_in f) (drop_all i all h)
 
 -- ---- expressions, places and types
-links-row : (n : _) (r : Row_of-Link n) → in_links r ≡ first_in in_link (items-the_row-Link n r)
+links_row : (n : _) (r : Row_of-Link n) → in_links r ≡ first_in in_link (items-the_row-Link n r)
 unfolding in_expr first_in
-links-row n end_of-Link = refl
-links-row n (more_of-Link op p a rest) = ap (λ (o : Option Pos). (in_operator op p or in_expr a) or o) (links-row _ rest)
+links_row n end_of-Link = refl
+links_row n (more_of-Link op p a rest) = ap (λ (o : Option Pos). (in_operator op p or in_expr a) or o) (links_row _ rest)
 
-steps-row : (n : _) (r : Row_of-Step n) → in_steps r ≡ first_in in_step (items-the_row-Step n r)
+steps_row : (n : _) (r : Row_of-Step n) → in_steps r ≡ first_in in_step (items-the_row-Step n r)
 unfolding in_expr first_in
-steps-row n end_of-Step = refl
-steps-row n (more_of-Step s rest) = ap (λ (o : Option Pos). in_step s or o) (steps-row _ rest)
+steps_row n end_of-Step = refl
+steps_row n (more_of-Step s rest) = ap (λ (o : Option Pos). in_step s or o) (steps_row _ rest)
 
-fields-row : (n : _) (r : Row_of-Field n) → in_fields r ≡ first_in in_field (items-the_row-Field n r)
+fields_row : (n : _) (r : Row_of-Field n) → in_fields r ≡ first_in in_field (items-the_row-Field n r)
 unfolding in_expr first_in
-fields-row n end_of-Field = refl
-fields-row n (more_of-Field f rest) = ap (λ (o : Option Pos). in_field f or o) (fields-row _ rest)
+fields_row n end_of-Field = refl
+fields_row n (more_of-Field f rest) = ap (λ (o : Option Pos). in_field f or o) (fields_row _ rest)
 
-declrs-row : (n : _) (r : Row_of-Declr n) → in_declrs r ≡ first_in in_declr (items-the_row-Declr n r)
+declrs_row : (n : _) (r : Row_of-Declr n) → in_declrs r ≡ first_in in_declr (items-the_row-Declr n r)
 unfolding in_expr first_in
-declrs-row n end_of-Declr = refl
-declrs-row n (more_of-Declr d rest) = ap (λ (o : Option Pos). in_declr d or o) (declrs-row _ rest)
+declrs_row n end_of-Declr = refl
+declrs_row n (more_of-Declr d rest) = ap (λ (o : Option Pos). in_declr d or o) (declrs_row _ rest)
 
-bounds-row : (n : _) (r : Row_of-Bound n) → in_bounds r ≡ first_in in_bound (items-the_row-Bound n r)
+bounds_row : (n : _) (r : Row_of-Bound n) → in_bounds r ≡ first_in in_bound (items-the_row-Bound n r)
 unfolding in_expr first_in
-bounds-row n end_of-Bound = refl
-bounds-row n (more_of-Bound p a rest) = ap (λ (o : Option Pos). in_expr a or o) (bounds-row _ rest)
+bounds_row n end_of-Bound = refl
+bounds_row n (more_of-Bound p a rest) = ap (λ (o : Option Pos). in_expr a or o) (bounds_row _ rest)
 
 abbrev steps_of : Expr → (n : _) × Row_of-Step n
 steps_of (Place' base n ss) = (_, ss)
@@ -87,7 +87,7 @@ expr_number value unsigned longs decimal p = refl
 
 pub expr_place : (x : Place) → in_expr (v.Place x) ≡ in_place x
 unfolding in_expr Rattle.sa_syntax.specs.declared.decl.Base.TheBlock.hidden-the_row-Step-0 denote.Hole.Carrier.hidden
-expr_place x = let row = steps_of (v.Place x) in steps-row row.0 row.1 ∙ ap (first_in in_step) (items_hidden-the_row-Step-0 _)
+expr_place x = let row = steps_of (v.Place x) in steps_row row.0 row.1 ∙ ap (first_in in_step) (items_hidden-the_row-Step-0 _)
 
 pub expr_bracket : (p : Pos) (a : Expr) → in_expr (v.Bracket p a) ≡ in_expr a
 unfolding in_expr Rattle.sa_syntax.specs.declared.decl.Base.TheBlock.hidden-the_row-Expr-1 denote.Hole.Carrier.hidden
@@ -103,7 +103,7 @@ expr_cast p ty a = refl
 
 pub expr_chain : (a : Expr) (ls : List Link) → in_expr (v.Chain a ls) ≡ in_expr a or first_in in_link ls
 unfolding in_expr Rattle.sa_syntax.specs.declared.decl.Base.TheBlock.hidden-the_row-Expr-1 denote.Hole.Carrier.hidden
-expr_chain a ls = let row = links_of (v.Chain a ls) in ap (λ (o : Option Pos). in_expr a or o) (links-row row.0 row.1 ∙ ap (first_in in_link) (items_hidden-the_row-Link-3 ls))
+expr_chain a ls = let row = links_of (v.Chain a ls) in ap (λ (o : Option Pos). in_expr a or o) (links_row row.0 row.1 ∙ ap (first_in in_link) (items_hidden-the_row-Link-3 ls))
 
 pub expr_choice : (c : Expr) (p : Pos) (a b : Expr) → in_expr (v.Choice c p a b) ≡ in_expr c or Some p
 unfolding in_expr Rattle.sa_syntax.specs.declared.decl.Base.TheBlock.hidden-the_row-Expr-1 denote.Hole.Carrier.hidden
@@ -123,15 +123,15 @@ step_arrow p x = refl
 
 pub struct_fields : (s : Struct) → in_struct s ≡ first_in in_field (out-Struct s).fields
 unfolding in_expr out-Struct denote.Hole.Carrier.out
-struct_fields (Struct' tag n fs) = fields-row _ fs ∙ ap (first_in in_field) (sym (items_shown-the_row-Field-6 _ fs))
+struct_fields (Struct' tag n fs) = fields_row _ fs ∙ ap (first_in in_field) (sym (items_shown-the_row-Field-6 _ fs))
 
 pub field_declrs : (f : Field) → in_field f ≡ in_specifiers (out-Field f).ty or first_in in_declr (out-Field f).declrs
 unfolding in_expr out-Field denote.Hole.Carrier.out
-field_declrs (Field' p qs ty n ds) = ap (λ (o : Option Pos). in_base ty or o) (declrs-row _ ds ∙ ap (first_in in_declr) (sym (items_shown-the_row-Declr-5 _ ds)))
+field_declrs (Field' p qs ty n ds) = ap (λ (o : Option Pos). in_base ty or o) (declrs_row _ ds ∙ ap (first_in in_declr) (sym (items_shown-the_row-Declr-5 _ ds)))
 
 pub declr_bounds : (d : Declr) → in_declr d ≡ first_in in_bound (out-Declr d).bounds
 unfolding in_expr out-Declr denote.Hole.Carrier.out
-declr_bounds (Declr' x n bs) = bounds-row _ bs ∙ ap (first_in in_bound) (sym (items_shown-the_row-Bound-4 _ bs))
+declr_bounds (Declr' x n bs) = bounds_row _ bs ∙ ap (first_in in_bound) (sym (items_shown-the_row-Bound-4 _ bs))
 
 -- ---- initialisers
 inits_row : (n : _) (r : Row_of-Init n) → in_inits r ≡ first_in in_init (items-the_row-Init n r)
@@ -225,9 +225,30 @@ pub item_stmt : (a : Stmt) → in_item (item.Stmt a) ≡ in_stmt a
 unfolding in_stmt
 item_stmt a = refl
 
+-- ---- the wait
+pub ends_none : (is : List BlockItem) → length is < 1 → ends_with_wait is ≡ false
+unfolding ends_with_wait
+ends_none [] h = refl
+ends_none (j ∷ is) h = absurd (omega arith)
+
+pub ends_last : (is : List BlockItem) (i : BlockItem) → 1 ≤ length is → i ≡ get_or is (length is - 1) i → ends_with_wait is ≡ is_wait i
+unfolding ends_with_wait
+ends_last [] i h e = absurd (omega arith)
+ends_last (j ∷ []) i h e = ap is_wait (sym e)
+ends_last (j ∷ k ∷ is) i h e =
+    let one_less : length (j ∷ k ∷ is) - 1 ≡ suc (length (k ∷ is) - 1) = omega arith in
+    ends_last (k ∷ is) i (omega arith) (e ∙ ap (λ n. get_or (j ∷ k ∷ is) n i) one_less)
+
 pub ruleset of_exprs = (expr_number, expr_place, expr_bracket, expr_prefix, expr_cast, expr_chain, expr_choice)
+
 pub ruleset of_steps = (step_index, step_field, step_arrow)
+
 pub ruleset of_inits = (init_value, init_braces)
+
 pub ruleset of_stmts = (stmt_block, stmt_empty, stmt_simple, stmt_gives, stmt_call, stmt_if, stmt_if_else, stmt_while, stmt_do, stmt_for, stmt_switch, stmt_break, stmt_return, stmt_directive)
+
 pub ruleset of_items = (item_local, item_stmt)
+
+pub ruleset of_ends = (ends_none, ends_last)
+
 pub ruleset of_lists = (first_stop, first_more, first_end)

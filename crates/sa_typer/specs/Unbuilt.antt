@@ -3,13 +3,12 @@
 -- clock loop. Not built are prototypes, other functions and static names of a block, each at the first token of its type;
 -- calls, at the called name; `&&`, `||` and `?`, at the mark; and `if`, `while`, `do`, `for`, `switch`, `break`, `return`
 -- and directives other than the wait, at the word.
-use Rattle.std.specs.Prelude.{ℕ, ◌==◌, ◌&&◌, not, List, [], ◌∷◌, Bool, true, false, if◌then◌else◌, Option, Some, None, ◌≡◌, codes}
+use Rattle.std.specs.Prelude.{◌==◌, ◌&&◌, not, List, [], ◌∷◌, Bool, true, false, if◌then◌else◌, Option, Some, None, ◌≡◌, codes}
 use Rattle.std.specs.List.{list_any}
 use Rattle.std.specs.Str.{bytes_eq}
 use Rattle.sa_base.specs.declared.pos.Pos.{Pos}
 use Rattle.sa_syntax.specs.declared.decl.Name.{Name}
 use Rattle.sa_syntax.specs.declared.decl.Qualified.{Qualified}
-use Rattle.sa_syntax.specs.declared.decl.Qualifier.{Qualifier}
 use Rattle.sa_syntax.specs.declared.decl.Qualifier.TheVariants as q
 use Rattle.sa_syntax.specs.declared.decl.Specifiers.{Specifiers, out-Specifiers}
 use Rattle.sa_syntax.specs.declared.decl.Base as b

@@ -376,6 +376,7 @@ fn is_wait(item: &BlockItem) -> bool
     matches!(item, BlockItem::Stmt(Stmt::Directive(_, Directive::Wait)))
 }
 
+#[tactic(auto, using(crate::proofs::UnbuiltLemmas::of_ends))]
 fn ends_with_wait(items: &[BlockItem]) -> bool
     ensures { result ≡ spec.ends_with_wait items.now }
 {
