@@ -1,8 +1,8 @@
--- Which forms of a source are built, and the place of the first one, in the order of the text, that isn't. This is this
--- project's own choice of what it takes of C so far: one function `main` without parameters, and directly in its block the
--- clock loop. Not built are prototypes, other functions and static names of a block, each at the first token of its type;
--- calls, at the called name; `&&`, `||` and `?`, at the mark; and `if`, `while`, `do`, `for`, `switch`, `break`, `return`
--- and directives other than the wait, at the word.
+-- Which forms of a source are built, and the place of the first one, in the order of the text, that isn't. What is built is
+-- this project's own choice: one function `main` without parameters, and directly in its block loops of the clock loop's
+-- form, `while (1)` or `for (;;)` with a block that ends with the wait. Not built are prototypes, other functions and static
+-- names of a block, each at the first token of its type; calls, at the called name; `&&`, `||` and `?`, at the mark; and
+-- `if`, `switch`, `do`, other `while` and `for`, `break`, `return` and directives other than the wait, at the word.
 use Rattle.std.specs.Prelude.{◌==◌, ◌&&◌, not, List, [], ◌∷◌, Bool, true, false, if◌then◌else◌, Option, Some, None, ◌≡◌, codes}
 use Rattle.std.specs.List.{list_any}
 use Rattle.std.specs.Str.{bytes_eq}
