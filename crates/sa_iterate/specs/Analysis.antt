@@ -2,8 +2,8 @@
 use Rattle.std.specs.Prelude.{List, [], ◌∷◌, map}
 use Rattle.sa_reference.specs.declared.flat.Flat.{Flat}
 use Rattle.sa_reference.specs.Steps.{Record, Found}
-use Rattle.sa_iterate.specs.declared.analyze.Analysis.{Analysis}
-use Rattle.sa_iterate.specs.declared.analyze.LoopFacts.{LoopFacts}
+use Rattle.sa_iterate.specs.declared.passes.Analysis.{Analysis}
+use Rattle.sa_iterate.specs.declared.passes.LoopFacts.{LoopFacts}
 
 -- the record of a loop of main
 unfoldable pub record_of : LoopFacts → Record Flat

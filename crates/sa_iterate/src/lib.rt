@@ -3,7 +3,7 @@
 //! It stands on environments and assignments. What `analyze` finds is what the reference analysis finds.
 #![tactic(auto)]
 
-mod analyze;
+mod passes;
 
-pub use analyze::{Analysis, LoopFacts, analyze};
+pub use passes::{Analysis, LoopFacts, analyze};
 pub use std::alloc::AllocError as OutOfMemory;
