@@ -21,7 +21,7 @@ use Rattle.sa_reference.specs.declared.flat.Flat.{Flat}
 use Rattle.sa_reference.specs.Passes.{alive_then}
 use Rattle.sa_reference.specs.Operators.{converted_span, conversion_alarms, operator_span, operator_alarms}
 use Rattle.sa_reference.specs.Environments.{put, cell_range, items_span}
-use Rattle.sa_reference.specs.Values.{named, cell_span, joined, span_of, alarms_of, access_cells, access_alarms, linked, with_one, with_both}
+use Rattle.sa_reference.specs.Values.{named, cell_span, joined, span_of, alarms_of, access_cells, access_alarms, fixed_access_cells, linked, with_one, with_both}
 
 -- ---- cells that are changed
 abbrev pub starred_cell : Option Cell → Bool
@@ -79,7 +79,7 @@ simple_of p w (Assign x num q a) env = assign_to p env (access_cells p w env x) 
 simple_of p w (Compound x num op q work a) env =
     assign_to p env (access_cells p w env x) (value_as num (linked op work (read_of env (access_cells p w env x)) (span_of p w env a)))
 simple_of p w (Copy k x q y) env =
-    alive_then (access_cells p w env x) (λ ks. alive_then (access_cells p w env y) (λ ds. Some (with_cells env (copied (cells p) ks ds env.cells env.cells))))
+    alive_then (fixed_access_cells p x) (λ ks. alive_then (fixed_access_cells p y) (λ ds. Some (with_cells env (copied (cells p) ks ds env.cells env.cells))))
 
 -- ---- alarms
 abbrev pub assign_alarms : Num → Pos → Option Span → List Alarm

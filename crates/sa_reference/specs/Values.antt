@@ -11,6 +11,7 @@ use Rattle.sa_interval.specs.Span.{Span}
 use Rattle.sa_interval.specs.Rows.{single, join_of, meet_of, is_part}
 use Rattle.sa_typed.specs.Evaluation.{Setting, Range} 
 use Rattle.sa_typed.specs.Evaluation as concrete
+use Rattle.sa_typed.specs.Constants.{fixed_index}
 use Rattle.sa_typed.specs.Cells.{Cell, one, all, of, cells}
 use Rattle.sa_typed.specs.Cells as cell
 use Rattle.sa_typed.specs.declared.expr.Expr.{Expr, Number, Read', Input, Prefix', Cast', Chain', end_of-Expr, more_of-Expr, Row_of-Link, end_of-Link, more_of-Link, Row_of-Step, end_of-Step, more_of-Step}
@@ -127,6 +128,11 @@ unfoldable mutual
   step_alarms p w env (At' q n m (more_of-Expr a end_of-Expr)) = alarms_of p w env a ++ with_one (span_of p w env a) (index_alarms q n)
   step_alarms p w env (Field f) = []
 
+-- the element that a constant index names
+unfoldable pub fixed_reach : Step → Option Reach
+fixed_reach (At' q n m (more_of-Expr a end_of-Expr)) = option_map (λ i. At (single (pos i))) (fixed_index n a)
+fixed_reach (Field f) = Some (Into f)
+
 -- ---- the cells of an access, none where an index has no value, and the alarms of its indices
 unfoldable pub read_cells : Program → Setting → Flat → Expr → Option (List ℕ)
 read_cells p w env (Read' v n steps num) = option_map (named p v) (reaches_of p w env steps)
@@ -137,3 +143,16 @@ access_cells p w env x = read_cells p w env (e.Read x I32)
 
 abbrev pub access_alarms : Program → Setting → Flat → Access → List Alarm
 access_alarms p w env x = alarms_of p w env (e.Read x I32)
+
+-- ---- accesses whose indices are all constant, and those that may be
+-- the steps of an access that leads to one place in every execution, none where an index errs or names no element
+unfoldable pub fixed_reaches : {n : _} → Row_of-Step n → Option (List Reach)
+fixed_reaches end_of-Step = Some []
+fixed_reaches (more_of-Step s rest) = alive_then (fixed_reach s) (λ r. option_map (λ rs. r ∷ rs) (fixed_reaches rest))
+
+unfoldable pub fixed_cells : Program → Expr → Option (List ℕ)
+fixed_cells p (Read' v n steps num) = option_map (named p v) (fixed_reaches steps)
+fixed_cells p _ = None
+
+abbrev pub fixed_access_cells : Program → Access → Option (List ℕ)
+fixed_access_cells p x = fixed_cells p (e.Read x I32)

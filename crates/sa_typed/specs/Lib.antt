@@ -4,4 +4,5 @@ pub mod Evaluation
 pub mod Executions
 pub mod Cells
 pub mod Lines
+pub mod Constants
 pub mod WellTyped

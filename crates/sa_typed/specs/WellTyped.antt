@@ -6,6 +6,7 @@ use Rattle.sa_base.specs.Numbers.{num_lo, num_hi}
 use Rattle.sa_base.specs.declared.num.Num.{Num}
 use Rattle.sa_base.specs.declared.num.Num.TheVariants.{I32}
 use Rattle.sa_typed.specs.Arithmetic.{is_signed, is_of, result_type, prefix_type}
+use Rattle.sa_typed.specs.Constants.{is_fixed}
 use Rattle.sa_typed.specs.Layouts.{Layout, leaf, row, fields, nth_field, layout_of, nums}
 use Rattle.sa_typed.specs.declared.expr.Expr.{Expr, Number, Read', Input, Prefix', Cast', Chain', end_of-Expr, more_of-Expr, Row_of-Link, end_of-Link, more_of-Link, Row_of-Step, end_of-Step, more_of-Step}
 use Rattle.sa_typed.specs.declared.expr.Expr.TheVariants as e
@@ -100,6 +101,15 @@ unfoldable mutual
   IsTypedStep p (At' q m k (more_of-Expr a end_of-Expr)) = IsTypedExpr p a
   IsTypedStep p (Field f) = Unit {0}
 
+-- each step leads to one place in every execution
+unfoldable pub are_fixed : {n : _} → Row_of-Step n → Bool
+are_fixed end_of-Step = true
+are_fixed (more_of-Step s rest) = is_fixed s && are_fixed rest
+
+abbrev pub is_fixed_read : Expr → Bool
+is_fixed_read (Read' v n steps num) = are_fixed steps
+is_fixed_read _ = false
+
 -- an access whose indices are typed and that leads there
 abbrev pub IsRead : Program → Layout → Expr → Type 0
 IsRead p l (Read' v n steps num) = AreTypedSteps p steps × (steps_layout (Some (layout_of p v)) steps ≡ Some l)
@@ -107,6 +117,11 @@ IsRead p l _ = ⊥
 
 abbrev pub IsTypedAccess : Program → Layout → Access → Type 0
 IsTypedAccess p l x = IsRead p l (e.Read x I32)
+
+-- the same with constant indices alone
+pub record IsFixedAccess (p : Program) (l : Layout) (x : Access) : Type 0 where
+  pub typed : IsTypedAccess p l x
+  pub fixed : IsTrue (is_fixed_read (e.Read x I32))
 
 -- ---- statements
 abbrev pub IsTypedStart : Program → ℕ → Start → Type 0
@@ -118,7 +133,7 @@ abbrev pub IsTypedSimple : Program → Simple → Type 0
 IsTypedSimple p (Declare v s) = IsTypedStart p v s
 IsTypedSimple p (Assign x num q a) = IsTypedAccess p (leaf num) x × IsTypedExpr p a
 IsTypedSimple p (Compound x num op q work a) = IsTypedAccess p (leaf num) x × (IsTypedExpr p a × IsLink op num work (type_of a))
-IsTypedSimple p (Copy k x q y) = (l : Layout) × IsTypedAccess p l x × IsTypedAccess p l y
+IsTypedSimple p (Copy k x q y) = (l : Layout) × IsFixedAccess p l x × IsFixedAccess p l y
 
 unfoldable mutual
   pub IsTypedStmt : Program → Stmt → Type 0
