@@ -4,3 +4,5 @@ pub mod StepLaws
 pub mod RunLaws
 pub mod SpanLaws
 pub mod EnvLaws
+pub mod CellLaws
+pub mod ValueLaws
