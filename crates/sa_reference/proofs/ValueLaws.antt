@@ -422,7 +422,9 @@ module _ (p : Program) (w : Setting) (F : OperatorFacts) (within : IsWithin p w)
             (λ y tape j. link_covers F op q left work (type_of b) o (span_of p w env b) x y tape t.1.0 h kb.stays i j)) in
         let k = links_known rest (result_type op work) next (some ++ (first ++ second)) (then_value v (λ x tape. then_value (eval w here store b tape) (λ y tape. given q (operate op work x y) tape)))
             t.1.1 (link_in F op left work (type_of b) o (span_of p w env b) t.1.0 h kb.stays) step in
-        record { stays = k.stays; covers = more_covers _ _ _ _ (λ a m. regroup a some first second (links_alarms p w env rest next) m) k.covers }
+        record { stays = k.stays; covers = more_covers (InSpan (links_span p w env rest next)) ((some ++ (first ++ second)) ++ links_alarms p w env rest next) (some ++ (first ++ (second ++ links_alarms p w env rest next)))
+            (links_value w here store rest (then_value v (λ x tape. then_value (eval w here store b tape) (λ y tape. given q (operate op work x y) tape))))
+            (λ a m. regroup a some first second (links_alarms p w env rest next) m) k.covers }
 
     pub steps_known : {n : _} (r : Row_of-Step n) (m l : Layout) → AreTypedSteps p r → steps_layout (Some m) r ≡ Some l → (tape : List ℤ) →
         Covers (StepsTaken r m l) (steps_alarms p w env r) (steps_value w here store r tape)
