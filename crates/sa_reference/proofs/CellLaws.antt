@@ -299,7 +299,7 @@ tail_next k whole s ss h j = ap (λ (i : ℕ). cell_span whole i) (omega arith) 
 pub tail_head : (k : ℕ) (whole : List Span) (s : Span) (ss : List Span) → Tail k whole (s ∷ ss) → cell_span whole k ≡ s
 tail_head k whole s ss h = ap (λ (i : ℕ). cell_span whole i) (omega arith) ∙ h 0
 
-names_it : (c : Cell) (v : ℕ) (ps : List Part) → IsAt ps v c → names c (record { path = []; var = v; parts = ps }) ≡ true
+pub names_it : (c : Cell) (v : ℕ) (ps : List Part) → IsAt ps v c → names c (record { path = []; var = v; parts = ps }) ≡ true
 names_it c v ps h = both_true (c.var == v) (covers c.steps ps) (subst (λ (i : ℕ). (c.var == i) ≡ true) h.0 (same_number c.var)) h.1
 
 joined_head : (whole : List Span) (k : ℕ) (ks : List ℕ) (z : ℤ) → Within (cell_span whole k) z → AliveAnd (λ s. Within s z) (joined whole (k ∷ ks))

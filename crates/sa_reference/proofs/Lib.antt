@@ -6,3 +6,5 @@ pub mod SpanLaws
 pub mod EnvLaws
 pub mod CellLaws
 pub mod ValueLaws
+pub mod PointLaws
+pub mod AccessLaws

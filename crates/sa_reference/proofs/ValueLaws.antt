@@ -268,7 +268,7 @@ module _ (p : Program) (w : Setting) (F : OperatorFacts) (within : IsWithin p w)
       value_then (Stops e) q t h = h
 
   -- ---- what is read
-  joined_in : (v : ℕ) (rs : List Reach) (num : Num) (cs : List Cell) (k : ℕ) (whole ss : List Span) → Tail k whole ss → AreIn cs ss →
+  pub joined_in : (v : ℕ) (rs : List Reach) (num : Num) (cs : List Cell) (k : ℕ) (whole ss : List Span) → Tail k whole ss → AreIn cs ss →
       AllOf (λ c. c.var ≡ v → reaches rs c.steps ≡ true → c.num ≡ num) cs → IfAlive (λ s. IsIn num s) (joined whole (named_from k cs v rs))
   unfolding AreIn named_from joined
   joined_in v rs num [] k whole ss t h a = tt
@@ -295,13 +295,13 @@ module _ (p : Program) (w : Setting) (F : OperatorFacts) (within : IsWithin p w)
   all_of_is P Q (x ∷ xs) k h = (k x h.0, all_of_is P Q xs k h.1)
 
   -- each cell that an access to an element names is of its type
-  named_num : (v : ℕ) (rs : List Reach) (num : Num) → reaches_layout (Some (layout_of p v)) rs ≡ Some (leaf num) →
+  pub named_num : (v : ℕ) (rs : List Reach) (num : Num) → reaches_layout (Some (layout_of p v)) rs ≡ Some (leaf num) →
       AllOf (λ c. c.var ≡ v → reaches rs c.steps ≡ true → c.num ≡ num) (cells p)
   named_num v rs num h =
       all_of_is _ _ (cells p) (λ c k e r. k rs num r (ap (λ (u : ℕ). reaches_layout (Some (layout_of p u)) rs) e ∙ h)) (of_program p (λ v. HasNum (layout_of p v)) (λ v. cells_num (layout_of p v)))
 
   -- what the steps of an access may take leads where they lead
-  reach_follows : {n : _} (r : Row_of-Step n) (m l : Layout) → steps_layout (Some m) r ≡ Some l → IfAlive (λ rs. reaches_layout (Some m) rs ≡ Some l) (reaches_of p w env r)
+  pub reach_follows : {n : _} (r : Row_of-Step n) (m l : Layout) → steps_layout (Some m) r ≡ Some l → IfAlive (λ rs. reaches_layout (Some m) rs ≡ Some l) (reaches_of p w env r)
   unfolding steps_layout eval span_of reaches_layout
   reach_follows end_of-Step m l h = h
   reach_follows (more_of-Step (At' q n j (more_of-Expr a end_of-Expr)) rest) m l h =
@@ -330,7 +330,7 @@ module _ (p : Program) (w : Setting) (F : OperatorFacts) (within : IsWithin p w)
       field_first (Some rs) (fields ls) k e h = ap (λ (o : Option Layout). reaches_layout o rs) e ∙ h
 
   -- ---- expressions
-  read_known : {n : _} (v : ℕ) (r : Row_of-Step n) (num : Num) (tape : List ℤ) → steps_layout (Some (layout_of p v)) r ≡ Some (leaf num) →
+  pub read_known : {n : _} (v : ℕ) (r : Row_of-Step n) (num : Num) (tape : List ℤ) → steps_layout (Some (layout_of p v)) r ≡ Some (leaf num) →
       Covers (StepsTaken r (layout_of p v) (leaf num)) (steps_alarms p w env r) (steps_value w here store r tape) →
       Known num (alive_then (reaches_of p w env r) (λ rs. joined env.cells (named p v rs))) (steps_alarms p w env r)
       (then_value (steps_value w here store r tape) (λ parts tape. Gives (store (place_of here v parts)) tape))
