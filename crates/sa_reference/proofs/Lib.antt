@@ -8,3 +8,5 @@ pub mod CellLaws
 pub mod ValueLaws
 pub mod PointLaws
 pub mod AccessLaws
+pub mod InitialLaws
+pub mod AssignLaws
