@@ -122,7 +122,7 @@ joined_stays num (suc more) k f h =
     join_in num (f k) (joined_from (k + 1) f more) (subst (λ (j : ℕ). IsIn num (f j)) e (h 0 (omega arith)))
     (joined_stays num more (k + 1) f (λ i g. let d : k + suc i ≡ k + 1 + i = omega arith in subst (λ (j : ℕ). IsIn num (f j)) d (h (suc i) (omega (arith, g)))))
 
-zero_of : (num : Num) → is_of num (pos 0) ≡ true
+pub zero_of : (num : Num) → is_of num (pos 0) ≡ true
 zero_of I8 = refl
 zero_of U8 = refl
 zero_of I16 = refl

@@ -10,3 +10,4 @@ pub mod PointLaws
 pub mod AccessLaws
 pub mod InitialLaws
 pub mod AssignLaws
+pub mod SimpleLaws
