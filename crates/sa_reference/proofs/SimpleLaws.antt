@@ -133,3 +133,44 @@ module _ (p : Program) (w : Setting) (F : OperatorFacts) (within : IsWithin p w)
       leaf_is l num h = h ∙ ap leaf (sym (ap num_in h))
   declare_sound v begins.Items tape t = items_hold v
 
+  -- ---- assignments
+  assign_sound : (x : Access) (num : Num) (q : Pos) (a : Expr) (tape : List ℤ) → IsTypedSimple p (Assign x num q a) →
+      Covers (λ st. HoldsAfter p time (simple_of p w (Assign x num q a) env) st) (simple_alarms p w (Assign x num q a) env) (simple_value p w here (Assign x num q a) store tape)
+  unfolding simple_of simple_alarms simple_value
+  assign_sound x num q a tape t =
+      let r = e.Read x I32 in
+      let s = value_as num (span_of p w env a) in
+      both_cover (Led p w F within here store env fair holds.cells r) (λ st. HoldsAfter p time (assign_to p env (read_cells p w env r) s) st) (alarms_of p w env r)
+      (alarms_of p w env a ++ assign_alarms num q (span_of p w env a)) (read_place w here store r tape)
+      (λ at tape. then_value (converted_value w here store num q a tape) (λ z tape. Gives (stored at z store) tape)) (led p w F within here store env fair holds.cells r num t.0 tape)
+      (λ at tape l. then_covers (InSpan s) (λ st. HoldsAfter p time (assign_to p env (read_cells p w env r) s) st) (alarms_of p w env a ++ assign_alarms num q (span_of p w env a)) []
+      (alarms_of p w env a ++ assign_alarms num q (span_of p w env a)) (converted_value w here store num q a tape) (λ z tape. Gives (stored at z store) tape) (converted_known num q a t.1 tape) (λ a m. m) (λ a m. absurd m)
+      (λ z tape i. assign_holds p env store time at z (read_cells p w env r) s holds l.named i))
+
+  compound_sound : (x : Access) (num : Num) (op : Operator) (q : Pos) (work : Num) (a : Expr) (tape : List ℤ) → IsTypedSimple p (Compound x num op q work a) →
+      Covers (λ st. HoldsAfter p time (simple_of p w (Compound x num op q work a) env) st) (simple_alarms p w (Compound x num op q work a) env) (simple_value p w here (Compound x num op q work a) store tape)
+  unfolding simple_of simple_alarms simple_value
+  compound_sound x num op q work a tape t =
+      let r = e.Read x I32 in
+      let o = read_of env (read_cells p w env r) in
+      let s = value_as num (linked op work o (span_of p w env a)) in
+      let more = alarms_of p w env a ++ (with_both o (span_of p w env a) (operator_alarms op q work) ++ assign_alarms num q (linked op work o (span_of p w env a))) in
+      both_cover (Led p w F within here store env fair holds.cells r) (λ st. HoldsAfter p time (assign_to p env (read_cells p w env r) s) st) (alarms_of p w env r) more (read_place w here store r tape)
+      (λ at tape. then_value (compound_value w here store num op work q (store at) a tape) (λ z tape. Gives (stored at z store) tape)) (led p w F within here store env fair holds.cells r num t.0 tape)
+      (λ at tape l. then_covers (InSpan s) (λ st. HoldsAfter p time (assign_to p env (read_cells p w env r) s) st) more [] more (compound_value w here store num op work q (store at) a tape)
+      (λ z tape. Gives (stored at z store) tape)
+      (compound_known num op work q o (store at) a t.1.0 t.1.1 (cells_known p w F within here store env fair holds.cells r num t.0).reads l.reads tape) (λ a m. m) (λ a m. absurd m)
+      (λ z tape i. assign_holds p env store time at z (read_cells p w env r) s holds l.named i))
+
+-- ---- what statements keep
+module _ (p : Program) (w : Setting) (F : OperatorFacts) (within : IsWithin p w) (typed : IsTyped p) (m : ℤ) (env : Flat) (fair : IsFair p m env) where
+  -- some store of which the environment may be asked; nothing here hangs on what it holds
+  declare_keeps : (here : Here) (store : Store) (holds : AllHold (cells p) env.cells store) (v : ℕ) (s : Start) → IsTypedStart p v s → IfAlive (IsFair p m) (declare_of p w v s env)
+  unfolding declare_of cell_range
+  declare_keeps here store holds v begins.Any t = record { ordered = fair.ordered; clock = fair.clock; cells = set_in cell_range v (cells p) env.cells (all_each _ (cells p) (λ c e. range_in c.num)) fair.cells }
+  declare_keeps here store holds v begins.Items t = record {
+    ordered = fair.ordered;
+    clock = fair.clock;
+    cells = set_in (items_span p) v (cells p) env.cells (all_map _ _ (cells p) (λ c h e. h) (items_in p typed)) fair.cells;
+  }
+  declare_keeps here store holds v (begins.Value q a) t = ?
