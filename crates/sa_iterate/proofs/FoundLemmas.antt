@@ -56,7 +56,7 @@ pub loop-checked : (p : Program) (q : Pos) (body : List Stmt) (e env : Flat) (f 
     new ≡ both old (clock_found p q body e)
 unfolding record_of main_loop clock_found kept
 loop-checked p q body e env f old with_record new facts at same added is =
-    let here = record { alarms = []; records = record_of f ∷ [] } in
+    let here : Found Flat = record { alarms = []; records = record_of f ∷ [] } in
     let sees = straight_found p body (Some f.state) in
     is ∙ ap (λ (s : Flat). both with_record (straight_found p body (Some s))) same ∙ ap (λ (w : Found Flat). both w sees) added ∙ both-assoc old here sees
     ∙ ap (λ (q : Pos). both old (both (recorded (main_loop q) f.passes f.state) sees)) at

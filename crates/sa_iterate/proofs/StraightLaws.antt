@@ -99,9 +99,9 @@ module _ (p : Program) where
   unfolding found stmt_found
   simple-found x e = refl
 
-  pub simple-typed : (x : Simple) → IsTypedStmt p (v.Simple x) → IsTypedSimple p x
+  pub simple-typed : (s : Stmt) (x : Simple) → s ≡ v.Simple x → IsTypedStmt p s → IsTypedSimple p x
   unfolding IsTypedStmt
-  simple-typed x h = h
+  simple-typed s x is h = subst (IsTypedStmt p) is h
 
   pub block-after : (all : List Stmt) (e : Flat) → stmt_after p (v.Block all) e ≡ straight p all (Some e)
   unfolding after stmt_after
@@ -116,11 +116,11 @@ module _ (p : Program) where
       let row = row_of (v.Block all) in
       row-found row.0 row.1 (Some e) ∙ ap (λ (ss : List Stmt). straight_found p ss (Some e)) (items_hidden-the_row-Stmt-0 all)
 
-  pub block-typed : (all : List Stmt) → IsTypedStmt p (v.Block all) → All (IsTypedStmt p) all
+  pub block-typed : (s : Stmt) (all ss : List Stmt) → s ≡ v.Block all → ss ≡ all → IsTypedStmt p s → All (IsTypedStmt p) ss
   unfolding IsTypedStmt
-  block-typed all h =
+  block-typed s all ss is e h =
       let row = row_of (v.Block all) in
-      All-same (IsTypedStmt p) all (items-the_row-Stmt row.0 row.1) (sym (items_hidden-the_row-Stmt-0 all)) (row-typed row.0 row.1 h)
+      All-same (IsTypedStmt p) ss (items-the_row-Stmt row.0 row.1) (e ∙ sym (items_hidden-the_row-Stmt-0 all)) (row-typed row.0 row.1 (subst (IsTypedStmt p) is h))
 
   pub clock-after : (q : Pos) (all : List Stmt) (e : Flat) → stmt_after p (v.Clock q all) e ≡ None
   unfolding after stmt_after
@@ -134,11 +134,11 @@ module _ (p : Program) where
       ∙ ap (λ (sees : Flat → Found Flat). loop_found (domain p) (main_loop q) sees (facts_from p (items-the_row-Stmt row.0 row.1) e)) (fun_ext (λ r. row-found row.0 row.1 (Some r)))
       ∙ ap (λ (ss : List Stmt). loop_found (domain p) (main_loop q) (λ r. straight_found p ss (Some r)) (facts_from p ss e)) (items_hidden-the_row-Stmt-0 all)
 
-  pub clock-typed : (q : Pos) (all : List Stmt) → IsTypedStmt p (v.Clock q all) → All (IsTypedStmt p) all
+  pub clock-typed : (s : Stmt) (q : Pos) (all ss : List Stmt) → s ≡ v.Clock q all → ss ≡ all → IsTypedStmt p s → All (IsTypedStmt p) ss
   unfolding IsTypedStmt
-  clock-typed q all h =
+  clock-typed s q all ss is e h =
       let row = row_of (v.Clock q all) in
-      All-same (IsTypedStmt p) all (items-the_row-Stmt row.0 row.1) (sym (items_hidden-the_row-Stmt-0 all)) (row-typed row.0 row.1 h)
+      All-same (IsTypedStmt p) ss (items-the_row-Stmt row.0 row.1) (e ∙ sym (items_hidden-the_row-Stmt-0 all)) (row-typed row.0 row.1 (subst (IsTypedStmt p) is h))
 
 -- ---- main
 pub main-block : (p : Program) → main_of p ≡ v.Block (main_body p)
@@ -148,8 +148,8 @@ main-block p = by_cases (slice_get p.funcs p.entry)
     by_cases None = refl
     by_cases (Some f) = refl
 
-pub main-typed : (p : Program) → IsTypedStmt p (main_of p) → All (IsTypedStmt p) (main_body p)
-main-typed p h = block-typed p (main_body p) (subst (IsTypedStmt p) (main-block p) h)
+pub main-typed : (p : Program) (ss : List Stmt) → ss ≡ main_body p → IsTypedStmt p (main_of p) → All (IsTypedStmt p) ss
+main-typed p ss e h = block-typed p (main_of p) (main_body p) ss (main-block p) e h
 
 pub main-found : (p : Program) → reference (domain p) p ≡ straight_found p (main_body p) (Some (initial_env p))
 unfolding reference stmt_found

@@ -5,7 +5,7 @@ use Rattle.std.specs.List.{All}
 use Rattle.std.specs.Result.{IfOk, OnOk}
 use Rattle.sa_base.specs.declared.alarm.Alarm.{Alarm}
 use Rattle.sa_typed.specs.WellTyped.{IsTypedStmt}
-use Rattle.sa_typed.specs.declared.stmt.Stmt.{Stmt}
+use Rattle.sa_typed.specs.declared.stmt.Stmt.{Stmt, the_lemmas}
 use Rattle.sa_reference.specs.declared.flat.Flat.{Flat}
 use Rattle.sa_reference.specs.Assignments.{simple_alarms}
 use Rattle.sa_reference.specs.Environments.{le_of, tick_of, top_of, whole_clock}
@@ -23,20 +23,13 @@ use Rattle.sa_iterate.proofs.passes.+walk.Goals as goal
 
 -- ---- one statement
 pub step-simple-requires-clause-stmt : goal.step-simple-requires-clause-stmt
-step-simple-requires-clause-stmt t c = simple-typed c.args.program.now c.in-Simple.stmt (subst (IsTypedStmt c.args.program.now) c.in-Simple.is c.requires.stmt)
+step-simple-requires-clause-stmt t c = simple-typed c.args.program.now c.args.stmt.now c.in-Simple.stmt c.in-Simple.is c.requires.stmt
 
 pub step-walk-requires : goal.step-walk-requires
-step-walk-requires t c =
-    let p = c.args.program.now in
-    let all : All (IsTypedStmt p) c.as_slice.result.now = All-same (IsTypedStmt p) c.as_slice.result.now c.in-Block.all c.as_slice.ensures (block-typed p c.in-Block.all (subst (IsTypedStmt p) c.in-Block.is c.requires.stmt)) in
-    search rules
+step-walk-requires t c = search (rules, the_lemmas, block-typed)
 
 pub step-check_loop-requires : goal.step-check_loop-requires
-step-check_loop-requires t c =
-    let p = c.args.program.now in
-    let all : All (IsTypedStmt p) c.as_slice-then-checking.result.now =
-        All-same (IsTypedStmt p) c.as_slice-then-checking.result.now c.in-Clock.body c.as_slice-then-checking.ensures (clock-typed p c.in-Clock.place c.in-Clock.body (subst (IsTypedStmt p) c.in-Clock.is c.requires.stmt)) in
-    search rules
+step-check_loop-requires t c = search (rules, the_lemmas, clock-typed)
 
 pub step-returns-in-Simple-clause-env : goal.step-returns-in-Simple-clause-env
 step-returns-in-Simple-clause-env t c = rw (c.in-Simple.is, simple-after) c.simple.ensures.env

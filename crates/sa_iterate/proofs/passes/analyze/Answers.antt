@@ -11,9 +11,7 @@ use Rattle.sa_iterate.proofs.StraightLaws.{main-typed, main-found}
 use Rattle.sa_iterate.proofs.passes.analyze.Goals as goal
 
 pub walk-requires-clause-stmts : goal.walk-requires-clause-stmts
-walk-requires-clause-stmts c =
-    let p = c.args.program.now in
-    All-same (IsTypedStmt p) c.main_body.result.now (main_body p) c.main_body.ensures (main-typed p c.requires.typed.body)
+walk-requires-clause-stmts c = main-typed c.args.program.now c.main_body.result.now c.main_body.ensures c.requires.typed.body
 
 pub returns : goal.returns
 unfolding kept
