@@ -1,13 +1,12 @@
 -- Statements from one environment: the list of environments that a block keeps never has more than one, and the walk over any
 -- row is the straight one.
-use Rattle.std.proofs.Common.{◌≡◌, ℕ, ℤ, List, [], ◌∷◌, ◌++◌, refl, ap, ap₂, sym, subst, ◌∙◌, Option, Some, None, append-nil, length}
+use Rattle.std.proofs.Common.{◌≡◌, List, [], ◌∷◌, ◌++◌, refl, ap, sym, subst, ◌∙◌, Option, Some, None, length}
 use Rattle.std.proofs.lemmas.List.Elements.{All-nil, All-cons, All-same}
 use Rattle.std.proofs.Math.Path.{fun_ext}
 use Rattle.std.specs.List.{All}
 use Rattle.std.specs.Prelude.{if◌then◌else◌, nat_le, slice_get}
-use Rattle.sa_base.specs.declared.alarm.Alarm.{Alarm}
 use Rattle.sa_base.specs.declared.pos.Pos.{Pos}
-use Rattle.sa_typed.specs.Executions.{Loop, block_of, main_of}
+use Rattle.sa_typed.specs.Executions.{block_of, main_of}
 use Rattle.sa_typed.specs.WellTyped.{IsTypedSimple, IsTypedStmt, AreTypedStmts}
 use Rattle.sa_typed.specs.declared.program.Func.{Func}
 use Rattle.sa_typed.specs.declared.program.Program.{Program}
@@ -20,7 +19,7 @@ use Rattle.sa_reference.specs.Environments.{tick_of, top_of, whole_clock, initia
 use Rattle.sa_reference.specs.Passes.{Facts, facts_of, alive_then}
 use Rattle.sa_reference.specs.Reference.{reference}
 use Rattle.sa_reference.specs.Sound.{widest}
-use Rattle.sa_reference.specs.Steps.{Record, Found, nothing, only, both, list_of, merged, spread, after, after_all, found, found_all, found_over, loop_found, clock_turn_of, clock_facts}
+use Rattle.sa_reference.specs.Steps.{Found, only, both, list_of, merged, spread, after, after_all, found, found_all, found_over, loop_found, clock_turn_of, clock_facts}
 use Rattle.sa_iterate.specs.Analysis.{body_in, main_body}
 use Rattle.sa_iterate.specs.Straight.{domain, stmt_after, stmt_found, next_env, next_found, straight, straight_found, turn_after, facts_from, main_loop, clock_found}
 use Rattle.sa_iterate.proofs.FoundLemmas.{both-nothing}

@@ -1,11 +1,10 @@
 -- The straight walk, one statement on and at its end.
-use Rattle.std.proofs.Common.{◌≡◌, ℕ, ◌+◌, ◌<◌, ◌≤◌, Bool, true, false, List, [], ◌∷◌, ◌++◌, length, drop, get_or, refl, sym, ap, ap₂, ◌∙◌, Option, Some, None, append_assoc}
+use Rattle.std.proofs.Common.{◌≡◌, ℕ, ◌+◌, ◌<◌, ◌≤◌, Bool, List, [], ◌∷◌, length, drop, get_or, refl, sym, ap, ◌∙◌, Option, Some, None}
 use Rattle.std.proofs.lemmas.List.{drop_more, drop_all}
-use Rattle.sa_base.specs.declared.alarm.Alarm.{Alarm}
 use Rattle.sa_typed.specs.declared.program.Program.{Program}
 use Rattle.sa_typed.specs.declared.stmt.Stmt.{Stmt}
 use Rattle.sa_reference.specs.declared.flat.Flat.{Flat}
-use Rattle.sa_reference.specs.Steps.{Record, Found, nothing, both}
+use Rattle.sa_reference.specs.Steps.{Found, nothing, both}
 use Rattle.sa_iterate.specs.Straight.{stmt_after, stmt_found, next_env, next_found, straight, straight_found, kept}
 use Rattle.sa_iterate.proofs.FoundLemmas.{both-nothing, both-assoc, kept-both, kept-nothing}
 

@@ -1,5 +1,5 @@
 -- What the code keeps of an analysis, as the reference states it.
-use Rattle.std.specs.Prelude.{List, [], ◌∷◌, map, Option, Some, None, slice_get}
+use Rattle.std.specs.Prelude.{List, [], map, Option, Some, None, slice_get}
 use Rattle.sa_typed.specs.declared.program.Func.{Func}
 use Rattle.sa_typed.specs.declared.program.Program.{Program}
 use Rattle.sa_typed.specs.declared.stmt.Stmt.{Stmt}

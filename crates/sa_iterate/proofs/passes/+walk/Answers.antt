@@ -1,20 +1,15 @@
-use Rattle.std.proofs.Common.{rules, arith, ◌≡◌, ◌∙◌, ◌∷◌, ◌++◌, [], ◌-◌, ◌+◌, ap, sym, refl, subst, true, false, Bool, List, Option, Some, None}
-use Rattle.std.proofs.lemmas.List.Elements.{All-same}
+use Rattle.std.proofs.Common.{rules, arith, ◌≡◌, ◌∙◌, ◌-◌, ◌+◌, ap, sym, refl, true, false, Bool, List, Option, Some, None}
 use Rattle.std.proofs.lemmas.Result.{on_ok_weaker}
-use Rattle.std.specs.List.{All}
-use Rattle.std.specs.Result.{IfOk, OnOk}
-use Rattle.sa_base.specs.declared.alarm.Alarm.{Alarm}
-use Rattle.sa_typed.specs.WellTyped.{IsTypedStmt}
 use Rattle.sa_typed.specs.declared.stmt.Stmt.{Stmt, the_lemmas}
 use Rattle.sa_reference.specs.declared.flat.Flat.{Flat}
 use Rattle.sa_reference.specs.Assignments.{simple_alarms}
 use Rattle.sa_reference.specs.Environments.{le_of, tick_of, top_of, whole_clock}
 use Rattle.sa_reference.specs.Fair.{alive_env}
-use Rattle.sa_reference.specs.Passes.{passes_from, joined, next, alive_then}
+use Rattle.sa_reference.specs.Passes.{passes_from, next, alive_then}
 use Rattle.sa_reference.specs.Sound.{widest}
 use Rattle.sa_reference.specs.Steps.{Found, both}
 use Rattle.sa_iterate.specs.Analysis.{found_by}
-use Rattle.sa_iterate.specs.Straight.{domain, stmt_after, stmt_found, straight, straight_found, kept, turn_after, clock_found}
+use Rattle.sa_iterate.specs.Straight.{domain, stmt_after, stmt_found, straight, kept, turn_after, facts_from, clock_found}
 use Rattle.sa_iterate.proofs.FoundLemmas.{kept-all, both-none, alarms-kept, record-added, loop-checked}
 use Rattle.sa_iterate.proofs.PassLemmas.{passes-first, passes-stable, passes-more, passes-last}
 use Rattle.sa_iterate.proofs.StraightLaws.{simple-after, simple-found, simple-typed, block-after, block-found, block-typed, clock-after, clock-found, clock-typed}
@@ -131,8 +126,8 @@ clock_facts-returns-then-le-clause-value t c =
     let p = c.args.program.now in
     let n = c.loop-pass.pass in
     let below : le_of c.in_ok-joined.joined c.loop-pass.state ≡ true = search rules in
-    sym c.loop-pass.invariant.value
-    ∙ passes-stable p (turn_after p c.args.body.now) (top_of p (whole_clock (widest p).max_clock)) c.args.entry.now (31 - n) (32 - n) n c.loop-pass.state c.in_ok-joined.joined (omega arith) c.in_ok-joined.ensures.value below
+    passes-stable p (turn_after p c.args.body.now) (top_of p (whole_clock (widest p).max_clock)) c.args.entry.now (facts_from p c.args.body.now c.args.entry.now) (31 - n) (32 - n) n c.loop-pass.state c.in_ok-joined.joined
+    (omega arith) c.in_ok-joined.ensures.value below c.loop-pass.invariant.value
 
 pub clock_facts-loop-pass-preserved : goal.clock_facts-loop-pass-preserved
 clock_facts-loop-pass-preserved t c =
@@ -142,8 +137,8 @@ clock_facts-loop-pass-preserved t c =
     let more : c.in_ok-state-2.state ≡ next (domain p) (top_of p (whole_clock (widest p).max_clock)) n c.loop-pass.state c.in_ok-joined.joined = search rules in
     let left : 32 - (n + 1) ≡ 31 - n = omega arith in
     record {
-      value = rw (left, more) (sym (passes-more p (turn_after p c.args.body.now) (top_of p (whole_clock (widest p).max_clock)) c.args.entry.now (31 - n) (32 - n) n c.loop-pass.state c.in_ok-joined.joined (omega arith) c.in_ok-joined.ensures.value below)
-          ∙ c.loop-pass.invariant.value);
+      value = rw (left, more) (passes-more p (turn_after p c.args.body.now) (top_of p (whole_clock (widest p).max_clock)) c.args.entry.now (facts_from p c.args.body.now c.args.entry.now) (31 - n) (32 - n) n c.loop-pass.state c.in_ok-joined.joined
+          (omega arith) c.in_ok-joined.ensures.value below c.loop-pass.invariant.value);
       fair = c.in_ok-state-2.ensures.fair;
     }
 
@@ -151,8 +146,8 @@ pub clock_facts-returns-clause-value : goal.clock_facts-returns-clause-value
 clock_facts-returns-clause-value t c =
     let p = c.args.program.now in
     let at : c.loop-pass.pass ≡ 32 = omega arith in
-    sym c.loop-pass.invariant.value
-    ∙ passes-last p (turn_after p c.args.body.now) (top_of p (whole_clock (widest p).max_clock)) c.args.entry.now (32 - c.loop-pass.pass) c.loop-pass.pass c.loop-pass.state (omega arith) ∙ rw at refl
+    passes-last p (turn_after p c.args.body.now) (top_of p (whole_clock (widest p).max_clock)) c.args.entry.now (facts_from p c.args.body.now c.args.entry.now) (32 - c.loop-pass.pass) c.loop-pass.pass c.loop-pass.state
+    (omega arith) c.loop-pass.invariant.value ∙ rw at refl
 
 -- ---- the loop in checking mode
 pub check_loop-returns : goal.check_loop-returns

@@ -1,11 +1,8 @@
-use Rattle.std.proofs.Common.{rules, ◌≡◌, ◌∙◌, ap, ap₂, sym, List, Some}
-use Rattle.std.proofs.lemmas.List.Elements.{All-same}
-use Rattle.sa_typed.specs.WellTyped.{IsTypedStmt}
+use Rattle.std.proofs.Common.{rules, ◌≡◌, ◌∙◌, ap₂, sym, List, Some}
 use Rattle.sa_typed.specs.declared.stmt.Stmt.{Stmt}
 use Rattle.sa_reference.specs.declared.flat.Flat.{Flat}
 use Rattle.sa_reference.specs.Environments.{initial_env}
-use Rattle.sa_reference.specs.Steps.{nothing, both}
-use Rattle.sa_iterate.specs.Analysis.{found_by, main_body}
+use Rattle.sa_iterate.specs.Analysis.{found_by}
 use Rattle.sa_iterate.specs.Straight.{straight_found, kept}
 use Rattle.sa_iterate.proofs.StraightLaws.{main-typed, main-found}
 use Rattle.sa_iterate.proofs.passes.analyze.Goals as goal
