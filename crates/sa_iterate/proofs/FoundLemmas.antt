@@ -7,7 +7,8 @@ use Rattle.sa_typed.specs.declared.program.Program.{Program}
 use Rattle.sa_typed.specs.declared.stmt.Stmt.{Stmt}
 use Rattle.sa_reference.specs.declared.flat.Flat.{Flat}
 use Rattle.sa_reference.specs.Passes.{Facts}
-use Rattle.sa_reference.specs.Steps.{Record, Found, nothing, only, both, noted, recorded, loop_found}
+use Rattle.sa_operators.specs.Alarms.{noted}
+use Rattle.sa_reference.specs.Steps.{Record, Found, nothing, only, both, recorded, loop_found}
 use Rattle.sa_iterate.specs.declared.passes.LoopFacts.{LoopFacts}
 use Rattle.sa_iterate.specs.Analysis.{record_of}
 use Rattle.sa_iterate.specs.Straight.{domain, straight_found, kept, facts_from, main_loop, clock_found}

@@ -16,7 +16,7 @@ use Rattle.sa_typed.specs.declared.program.Program.{Program}
 use Rattle.sa_reference.specs.declared.flat.Flat.{Flat}
 use Rattle.sa_reference.specs.declared.reach.Reach.{Reach}
 use Rattle.sa_reference.specs.Passes.{alive_then}
-use Rattle.sa_reference.specs.Operators.{IsIn}
+use Rattle.sa_operators.specs.Operators.{IsIn}
 use Rattle.sa_reference.specs.Environments.{AllHold}
 use Rattle.sa_reference.specs.Values.{named, named_from, reaches, reaches_of, read_cells, alarms_of, steps_alarms, joined, cell_span}
 use Rattle.sa_reference.specs.Assignments.{read_of}

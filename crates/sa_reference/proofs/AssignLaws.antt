@@ -28,7 +28,7 @@ use Rattle.sa_typed.specs.declared.program.Var.{Var}
 use Rattle.sa_typed.specs.declared.program.Program.{Program}
 use Rattle.sa_reference.specs.declared.flat.Flat.{Flat}
 use Rattle.sa_reference.specs.Passes.{alive_then}
-use Rattle.sa_reference.specs.Operators.{IsIn, range_of, converted_span, conversion_alarms, operator_span, operator_alarms}
+use Rattle.sa_operators.specs.Operators.{IsIn, range_of, converted_span, conversion_alarms, operator_span, operator_alarms}
 use Rattle.sa_reference.specs.Environments.{AllHold, Holds, cell_range, items_span, initial_span, initial_values, initial_spans, initial_env, is_local_var}
 use Rattle.sa_reference.specs.Values.{span_of, alarms_of, named, read_cells, access_cells, access_alarms, linked, with_one, with_both, cell_span}
 use Rattle.sa_reference.specs.Assignments.{assigned, set_cells, with_cells, assign_to, value_as, read_of, declare_of, declare_alarms, simple_of, simple_alarms, assign_alarms}

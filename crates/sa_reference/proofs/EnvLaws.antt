@@ -13,7 +13,7 @@ use Rattle.sa_typed.specs.declared.program.Place.{Place}
 use Rattle.sa_typed.specs.declared.program.Program.{Program}
 use Rattle.sa_reference.specs.declared.flat.Flat.{Flat}
 use Rattle.sa_reference.specs.Passes.{alive_then}
-use Rattle.sa_reference.specs.Operators.{IsIn, range_of}
+use Rattle.sa_operators.specs.Operators.{IsIn, range_of}
 use Rattle.sa_reference.specs.Environments.{zip, all_parts, put, ranges, cell_range, whole_clock, widened_spans, widened_span, widened_clock, merge_of, le_of, tick_of, widen_of, top_of, AllHold, Holds}
 use Rattle.sa_reference.specs.Sound.{AliveAnd}
 use Rattle.sa_reference.specs.Fair.{AreIn, IsFair}

@@ -17,7 +17,7 @@ use Rattle.sa_typed.specs.Evaluation.{Value, Gives, Stops, Blocked, Tape, then_v
 use Rattle.sa_typed.specs.Executions.{any_numbers}
 use Rattle.sa_typed.specs.declared.shape.Part.{Part}
 use Rattle.sa_typed.specs.declared.shape.Part.TheVariants.{At, Field}
-use Rattle.sa_reference.specs.Operators.{IsIn, range_of}
+use Rattle.sa_operators.specs.Operators.{IsIn, range_of}
 use Rattle.sa_reference.specs.Environments.{joined_from, initial_span}
 use Rattle.sa_reference.proofs.Laws.{Covers}
 use Rattle.sa_reference.proofs.SpanLaws.{and_left, and_right, le_fact, join_left, join_right, join_in, single_within}

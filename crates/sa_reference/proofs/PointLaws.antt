@@ -14,7 +14,7 @@ use Rattle.sa_typed.specs.declared.shape.Part.{Part}
 use Rattle.sa_typed.specs.declared.shape.Part.TheVariants.{At, Field}
 use Rattle.sa_typed.specs.declared.program.Place.{Place}
 use Rattle.sa_reference.specs.declared.reach.Reach.{Reach}
-use Rattle.sa_reference.specs.Operators.{IsIn}
+use Rattle.sa_operators.specs.Operators.{IsIn}
 use Rattle.sa_reference.specs.Environments.{AllHold, put}
 use Rattle.sa_reference.specs.Values.{cell_span, named_from, reaches}
 use Rattle.sa_reference.specs.Assignments.{starred_at, starred_cell, weakly, assigned}

@@ -11,7 +11,7 @@ use Rattle.sa_interval.specs.Rows.{single, join_of, meet_of, is_part, sum_of}
 use Rattle.sa_interval.specs.Widening.{widening_of}
 use Rattle.sa_interval.proofs.Stops.{widening_between}
 use Rattle.sa_reference.specs.Sound.{AliveAnd}
-use Rattle.sa_reference.specs.Operators.{IsIn, range_of}
+use Rattle.sa_operators.specs.Operators.{IsIn, range_of}
 use Rattle.sa_reference.specs.Environments.{widened_span, spread_to, risen, fallen}
 use Rattle.sa_reference.proofs.Laws.{IfAlive}
 use Rattle.sa_reference.proofs.PassLaws.{if_keeps}

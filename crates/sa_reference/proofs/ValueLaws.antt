@@ -30,9 +30,9 @@ use Rattle.sa_reference.specs.declared.flat.Flat.{Flat}
 use Rattle.sa_reference.specs.declared.reach.Reach.{Reach}
 use Rattle.sa_reference.specs.declared.reach.Reach.TheVariants as reach
 use Rattle.sa_reference.specs.Passes.{alive_then}
-use Rattle.sa_reference.specs.Operators.{IsIn, alarm_if, converted_span, conversion_alarms, operator_span, operator_alarms, prefix_span, prefix_alarms}
-use Rattle.sa_reference.specs.OperatorLaws.{Suits, SuitsRight, IsSmallSpan, TypesAreSmall, OwnTypeSuits, UnsignedSuits, ConversionsCover, OperatorsCover, PrefixesCover, ConversionsStay, OperatorsStay, PrefixesStay}
-use Rattle.sa_reference.specs.OperatorLaws as laws
+use Rattle.sa_operators.specs.Operators.{IsIn, alarm_if, converted_span, conversion_alarms, operator_span, operator_alarms, prefix_span, prefix_alarms}
+use Rattle.sa_operators.specs.OperatorLaws.{Suits, SuitsRight, IsSmallSpan, TypesAreSmall, OwnTypeSuits, UnsignedSuits, ConversionsCover, OperatorsCover, PrefixesCover, ConversionsStay, OperatorsStay, PrefixesStay}
+use Rattle.sa_operators.specs.OperatorLaws as laws
 use Rattle.sa_reference.specs.Environments.{AllHold}
 use Rattle.sa_reference.specs.Fair.{AreIn}
 use Rattle.sa_reference.specs.Values.{indices, named, named_from, cell_span, joined, input_span, with_one, with_both, linked, index_reach, span_of, links_span, reaches_of, reach_of, index_alarms, alarms_of, links_alarms, steps_alarms, step_alarms, reaches}

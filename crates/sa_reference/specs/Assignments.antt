@@ -19,7 +19,7 @@ use Rattle.sa_typed.specs.declared.stmt.Simple.TheVariants.{Declare, Assign, Com
 use Rattle.sa_typed.specs.declared.program.Program.{Program}
 use Rattle.sa_reference.specs.declared.flat.Flat.{Flat}
 use Rattle.sa_reference.specs.Passes.{alive_then}
-use Rattle.sa_reference.specs.Operators.{converted_span, conversion_alarms, operator_span, operator_alarms}
+use Rattle.sa_operators.specs.Operators.{converted_span, conversion_alarms, operator_span, operator_alarms}
 use Rattle.sa_reference.specs.Environments.{put, cell_range, items_span}
 use Rattle.sa_reference.specs.Values.{named, cell_span, joined, span_of, alarms_of, access_cells, access_alarms, fixed_access_cells, linked, with_one, with_both}
 

@@ -16,7 +16,7 @@ use Rattle.sa_typed.specs.declared.program.Var.{Var}
 use Rattle.sa_typed.specs.declared.program.Program.{Program}
 use Rattle.sa_reference.specs.declared.flat.Flat.{Flat}
 use Rattle.sa_reference.specs.Passes.{alive_then}
-use Rattle.sa_reference.specs.Operators.{range_of}
+use Rattle.sa_operators.specs.Operators.{range_of}
 
 -- slot by slot, as long as both lists go on
 abbrev pub zip : (Span → Span → Span) → List Span → List Span → List Span

@@ -4,7 +4,7 @@ use Rattle.sa_interval.specs.Span.{Span, IsPart}
 use Rattle.sa_typed.specs.Cells.{Cell, cells}
 use Rattle.sa_typed.specs.declared.program.Program.{Program}
 use Rattle.sa_reference.specs.declared.flat.Flat.{Flat}
-use Rattle.sa_reference.specs.Operators.{IsIn}
+use Rattle.sa_operators.specs.Operators.{IsIn}
 use Rattle.sa_reference.specs.Environments.{whole_clock}
 
 unfoldable pub AreIn : List Cell → List Span → Type 0

@@ -2,11 +2,9 @@ pub mod Domain
 pub mod Passes
 pub mod Steps
 pub mod Reference
-pub mod Operators
 pub mod Environments
 pub mod Values
 pub mod Assignments
 pub mod Intervals
 pub mod Fair
 pub mod Sound
-pub mod OperatorLaws

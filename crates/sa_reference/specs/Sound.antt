@@ -9,14 +9,11 @@ use Rattle.sa_typed.specs.declared.program.Program.{Program}
 use Rattle.sa_typed.specs.Evaluation.{End, Error, Clock, Blocked, Tape, Going, Setting, Range}
 use Rattle.sa_typed.specs.Executions.{Visit, Run, execution}
 use Rattle.sa_typed.specs.WellTyped.{IsTyped}
+pub use Rattle.sa_operators.specs.Alarms.{IsAmong}
 use Rattle.sa_reference.specs.Domain.{Domain}
 use Rattle.sa_reference.specs.Steps.{Record, Found}
 use Rattle.sa_reference.specs.Reference.{reference, record_at}
 use Rattle.sa_reference.specs.Intervals.{intervals}
-
-abbrev pub IsAmong : {A : Type 0} → A → List A → Type 0
-IsAmong a [] = ⊥
-IsAmong a (b ∷ bs) = (a ≡ b) ⊎ IsAmong a bs
 
 -- not dead, and P holds
 abbrev pub AliveAnd : {A : Type 0} → (A → Type 0) → Option A → Type 0

@@ -42,11 +42,6 @@ abbrev pub found_over : {Env : Type 0} → List Env → (Env → Found Env) → 
 found_over [] go = nothing
 found_over (e ∷ es) go = both (go e) (found_over es go)
 
--- what is noted of alarms: all of them in checking mode, none in iteration mode
-unfoldable pub noted : Bool → List Alarm → List Alarm
-noted true alarms = alarms
-noted false alarms = []
-
 abbrev pub recorded : {Env : Type 0} → Loop → ℕ → Env → Found Env
 recorded loop passes state = record { alarms = []; records = record { loop = loop; passes = passes; state = state } ∷ [] }
 

@@ -24,7 +24,7 @@ use Rattle.sa_reference.specs.declared.flat.Flat.{Flat}
 use Rattle.sa_reference.specs.declared.reach.Reach.{Reach}
 use Rattle.sa_reference.specs.declared.reach.Reach.TheVariants.{At, Into}
 use Rattle.sa_reference.specs.Passes.{alive_then}
-use Rattle.sa_reference.specs.Operators.{converted_span, conversion_alarms, operator_span, operator_alarms, prefix_span, prefix_alarms, alarm_if}
+use Rattle.sa_operators.specs.Operators.{converted_span, conversion_alarms, operator_span, operator_alarms, prefix_span, prefix_alarms, alarm_if}
 
 -- ---- places
 -- the indices of an array

@@ -4,7 +4,7 @@ ghost use Rattle.std.specs.Prelude.{◌≡◌, ◌++◌, IfOk, OnOk};
 ghost use Rattle.sa_typed.specs.Cells.{cells};
 ghost use Rattle.sa_typed.specs.WellTyped.{IsTyped, IsTypedSimple};
 ghost use Rattle.sa_reference.specs.Sound.{widest};
-ghost use Rattle.sa_reference.specs.Steps.{noted};
+ghost use Rattle.sa_operators.specs.Alarms.{noted};
 ghost use Rattle.sa_reference.specs.Assignments.{simple_of, simple_alarms};
 ghost use Rattle.sa_reference.specs.Fair.{AreIn, alive_env};
 ghost use Rattle.sa_env.specs.Grounds.{IsGround};

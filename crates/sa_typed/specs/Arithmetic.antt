@@ -50,6 +50,11 @@ pub record IsSmall (z : ℤ) : Type 0 where
   pub low : negsuc (2 ^ 63 - 1) ≤ℤ z
   pub high : z ≤ℤ pos (2 ^ 64 - 1)
 
+-- the number is between the least and the greatest value of all signed types
+pub record IsHalf (z : ℤ) : Type 0 where
+  pub low : negsuc (2 ^ 63 - 1) ≤ℤ z
+  pub high : z ≤ℤ pos (2 ^ 63 - 1)
+
 -- the integer promotions: an int holds every value of a narrower type (6.3.1.1p2)
 abbrev pub promoted : Num → Num
 promoted I8 = I32

@@ -1,16 +1,20 @@
 //! The typed program: what typing makes of a source, and what a typed program means.
 //!
-//! It stands on `sa_base`. `specs/` has the meaning of C for these programs: how a number is converted and an operator
+//! It stands on `sa_base` and the lemmas of `sa_numbers`. `specs/` has the meaning of C for these programs: how a number is converted and an operator
 //! applied (`Arithmetic`), how an expression is evaluated over a store, a tape and a clock (`Evaluation`), what an execution
 //! does (`Executions`), which cells a program has (`Cells`) and when a line of a report is true (`Lines`). Nothing here knows
 //! an interval.
 #![tactic(auto)]
 
+mod arithmetic;
 mod expr;
 mod program;
 mod shape;
 mod stmt;
 
+pub use arithmetic::{
+    as_num, bits, common, converted, is_of, is_signed, literal_type, promoted, wrapped,
+};
 pub use expr::{Access, Expr, Link, Operator, Prefix, Step};
 pub use program::{Func, Home, Input, Param, Place, Program, Var};
 pub use shape::{FieldDef, Part, Shape, StructDef};

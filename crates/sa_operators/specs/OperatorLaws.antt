@@ -9,8 +9,8 @@ use Rattle.sa_typed.specs.Arithmetic.{is_signed, promoted, common, as_num, conve
 use Rattle.sa_typed.specs.declared.expr.Operator.{Operator}
 use Rattle.sa_typed.specs.declared.expr.Operator.TheVariants as o
 use Rattle.sa_typed.specs.declared.expr.Prefix.{Prefix}
-use Rattle.sa_reference.specs.Operators.{range_of, all_types, IsIn, as_span, converted_span, conversion_alarms, operator_span, operator_alarms, prefix_span, prefix_alarms}
-use Rattle.sa_reference.specs.Sound.{IsAmong}
+use Rattle.sa_operators.specs.Operators.{range_of, all_types, IsIn, as_span, converted_span, conversion_alarms, operator_span, operator_alarms, prefix_span, prefix_alarms}
+use Rattle.sa_operators.specs.Alarms.{IsAmong}
 
 -- the span isn't empty and lies between the least and the greatest value of all types
 pub record IsSmallSpan (s : Span) : Type 0 where

@@ -1,6 +1,6 @@
 -- What operators and conversions make of spans, and the alarms that checking mode finds at them. Spans of operands aren't converted yet.
 -- That a result outside a signed type is met with the type after its alarm is this project's own choice: no execution goes on from there (ISO C 6.5p5).
-use Rattle.std.specs.Prelude.{ℕ, ◌^◌, ◌-◌, ℤ, pos, negsuc, ◌≤ℤ◌, unsigned_abs, Bool, true, false, ◌&&◌, ◌||◌, not, if◌then◌else◌, List, [], ◌∷◌, ◌++◌, Option, Some, None}
+use Rattle.std.specs.Prelude.{◌^◌, ◌-◌, ℤ, pos, negsuc, ◌≤ℤ◌, Bool, false, ◌&&◌, ◌||◌, not, if◌then◌else◌, List, [], ◌∷◌, ◌++◌, Option, Some, None}
 use Rattle.std.specs.Int.RustNames.{int_le, int_lt}
 use Rattle.std.specs.Ordering.{int_eq}
 use Rattle.sa_base.specs.Numbers.{num_lo, num_hi}

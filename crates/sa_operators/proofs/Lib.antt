@@ -1,0 +1,4 @@
+pub mod FitLaws
+pub mod OperatorCovers
+pub mod OperatorStays
+pub mod CodeLaws
