@@ -25,7 +25,7 @@ use Rattle.sa_reference.specs.Sound.{IsAmong, AliveAnd, IsWithin}
 use Rattle.sa_reference.proofs.Laws.{IfAlive, Covers}
 use Rattle.sa_reference.proofs.SpanLaws.{and_left, and_right, both_true}
 use Rattle.sa_reference.proofs.CellLaws.{AnyOf, AllOf, IsAt, Matches, parts_layout, are_reached, place_cell, reaches_layout, names_it, Tail, read_within}
-use Rattle.sa_reference.proofs.ValueLaws.{OperatorFacts, InSpan, Known, StepsTaken, then_covers, steps_known, read_known, reach_follows, named_num, joined_in}
+use Rattle.sa_reference.proofs.ValueLaws.{OperatorFacts, InSpan, StepsTaken, then_covers, steps_known, reach_follows, named_num, read_stays}
 use Rattle.sa_reference.proofs.PointLaws.{NamesAll, AreOf}
 
 -- ---- cells by their numbers
@@ -100,16 +100,49 @@ named_all p here v parts rs num m l = record { each = each; some = some }
     some : (j : ℕ) × (c : Cell) × (slice_get (cells p) j ≡ Some c) × (names c a ≡ true)
     some = let x = any_at (IsAt parts v) (cells p) (place_cell p v parts num l) in (x.0, x.1, x.2, names_it x.1 v parts x.3)
 
+-- a variable alone
+pub whole_named : (p : Program) (here : Here) (v : ℕ) (num : Num) → layout_of p v ≡ leaf num → NamesAll (cells p) (place_of here v []) (named p v [])
+unfolding Matches parts_layout
+whole_named p here v num l = named_all p here v [] [] num tt (ap Some l)
+
+module _ (p : Program) (w : Setting) (F : OperatorFacts) (within : IsWithin p w) (env : Flat) (fair : AreIn (cells p) env.cells) where
+  -- what is known of the cells of an access to an element of this type
+  pub record CellsKnown (num : Num) (o : Option (List ℕ)) : Type 0 where
+    pub types : IfAlive (λ ks. AreOf num (cells p) ks) o
+    pub reads : IfAlive (λ s. IsIn num s) (read_of env o)
+
+  named_of : (v : ℕ) (rs : List Reach) (num : Num) → reaches_layout (Some (layout_of p v)) rs ≡ Some (leaf num) → AreOf num (cells p) (named p v rs)
+  unfolding named
+  named_of v rs num h k m c e =
+      let x = named_passes v rs (cells p) 0 k m in
+      let at : k ≡ x.0 = (let f = x.1 in omega arith) in
+      let is : Some x.2.cell ≡ Some c = sym (x.2.there) ∙ subst (λ (i : ℕ). slice_get (cells p) i ≡ Some c) at e in
+      let same : x.2.cell ≡ c = cc in
+      let test = subst (λ (d : Cell). (d.var == v && reaches rs d.steps) ≡ true) same x.2.test in
+      all_at _ (cells p) k c (named_num p w F within env fair v rs num h) e (number_is c.var v (and_left (c.var == v) (reaches rs c.steps) test)) (and_right (c.var == v) (reaches rs c.steps) test)
+
+  pub cells_known : (r : Expr) (num : Num) → IsRead p (leaf num) r → CellsKnown num (read_cells p w env r)
+  unfolding read_cells
+  cells_known (Read' v n steps k) num t = from (reaches_of p w env steps) (reach_follows p w F within env fair steps (layout_of p v) (leaf num) t.1)
+    where
+      from : (o : Option (List Reach)) → IfAlive (λ rs. reaches_layout (Some (layout_of p v)) rs ≡ Some (leaf num)) o → CellsKnown num (option_map (named p v) o)
+      from None h = record { types = tt; reads = tt }
+      from (Some rs) h = record { types = named_of v rs num h; reads = read_stays p w F within env fair v rs num h }
+  cells_known (Number n k) num t = absurd t
+  cells_known (Input k m) num t = absurd t
+  cells_known (Prefix' op q k n a) num t = absurd t
+  cells_known (Cast' q k n a) num t = absurd t
+  cells_known (Chain' n a m ls) num t = absurd t
+
+  pub whole_of : (v : ℕ) (num : Num) → layout_of p v ≡ leaf num → AreOf num (cells p) (named p v [])
+  unfolding reaches_layout
+  whole_of v num l = named_of v [] num (ap Some l)
+
 module _ (p : Program) (w : Setting) (F : OperatorFacts) (within : IsWithin p w) (here : Here) (store : Store) (env : Flat) (fair : AreIn (cells p) env.cells) (holds : AllHold (cells p) env.cells store) where
   -- an element, all of whose cells an access names, and what is read of them
   pub record Led (r : Expr) (a : Place) : Type 0 where
     pub named : AliveAnd (λ ks. NamesAll (cells p) a ks) (read_cells p w env r)
     pub reads : InSpan (read_of env (read_cells p w env r)) (store a)
-
-  -- what is known of the cells of an access to an element of this type
-  pub record CellsKnown (num : Num) (o : Option (List ℕ)) : Type 0 where
-    pub types : IfAlive (λ ks. AreOf num (cells p) ks) o
-    pub reads : IfAlive (λ s. IsIn num s) (read_of env o)
 
   whole : Tail 0 env.cells env.cells
   whole j = ap (λ (i : ℕ). cell_span env.cells i) (omega arith)
@@ -142,39 +175,3 @@ module _ (p : Program) (w : Setting) (F : OperatorFacts) (within : IsWithin p w)
   led (Cast' q k n a) num t tape = absurd t
   led (Chain' n a m ls) num t tape = absurd t
 
-  named_of : (v : ℕ) (rs : List Reach) (num : Num) → reaches_layout (Some (layout_of p v)) rs ≡ Some (leaf num) → AreOf num (cells p) (named p v rs)
-  unfolding named
-  named_of v rs num h k m c e =
-      let x = named_passes v rs (cells p) 0 k m in
-      let at : k ≡ x.0 = (let f = x.1 in omega arith) in
-      let is : Some x.2.cell ≡ Some c = sym (x.2.there) ∙ subst (λ (i : ℕ). slice_get (cells p) i ≡ Some c) at e in
-      let same : x.2.cell ≡ c = cc in
-      let test = subst (λ (d : Cell). (d.var == v && reaches rs d.steps) ≡ true) same x.2.test in
-      all_at _ (cells p) k c (named_num p w F within here store env fair holds v rs num h) e (number_is c.var v (and_left (c.var == v) (reaches rs c.steps) test)) (and_right (c.var == v) (reaches rs c.steps) test)
-
-  read_stays : (v : ℕ) (rs : List Reach) (num : Num) → reaches_layout (Some (layout_of p v)) rs ≡ Some (leaf num) → IfAlive (λ s. IsIn num s) (joined env.cells (named p v rs))
-  unfolding named
-  read_stays v rs num h =
-      joined_in p w F within here store env fair holds v rs num (cells p) 0 env.cells env.cells whole fair (named_num p w F within here store env fair holds v rs num h)
-
-  pub cells_known : (r : Expr) (num : Num) → IsRead p (leaf num) r → CellsKnown num (read_cells p w env r)
-  unfolding read_cells
-  cells_known (Read' v n steps k) num t = from (reaches_of p w env steps) (reach_follows p w F within here store env fair holds steps (layout_of p v) (leaf num) t.1)
-    where
-      from : (o : Option (List Reach)) → IfAlive (λ rs. reaches_layout (Some (layout_of p v)) rs ≡ Some (leaf num)) o → CellsKnown num (option_map (named p v) o)
-      from None h = record { types = tt; reads = tt }
-      from (Some rs) h = record { types = named_of v rs num h; reads = read_stays v rs num h }
-  cells_known (Number n k) num t = absurd t
-  cells_known (Input k m) num t = absurd t
-  cells_known (Prefix' op q k n a) num t = absurd t
-  cells_known (Cast' q k n a) num t = absurd t
-  cells_known (Chain' n a m ls) num t = absurd t
-
-  -- a variable alone
-  pub whole_named : (v : ℕ) (num : Num) → layout_of p v ≡ leaf num → NamesAll (cells p) (place_of here v []) (named p v [])
-  unfolding Matches parts_layout
-  whole_named v num l = named_all p here v [] [] num tt (ap Some l)
-
-  pub whole_of : (v : ℕ) (num : Num) → layout_of p v ≡ leaf num → AreOf num (cells p) (named p v [])
-  unfolding reaches_layout
-  whole_of v num l = named_of v [] num (ap Some l)

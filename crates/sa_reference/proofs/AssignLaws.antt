@@ -39,7 +39,7 @@ use Rattle.sa_reference.proofs.StepLaws.{among_left, among_right}
 use Rattle.sa_reference.proofs.SpanLaws.{and_left, and_right, both_true, single_within}
 use Rattle.sa_reference.proofs.EnvLaws.{range_in}
 use Rattle.sa_reference.proofs.CellLaws.{AllOf, Leads, cells_lead, of_program}
-use Rattle.sa_reference.proofs.ValueLaws.{OperatorFacts, InSpan, Known, known, both_cover, then_covers, more_covers, value_is, link_covers, link_in, convert_covers, convert_in}
+use Rattle.sa_reference.proofs.ValueLaws.{OperatorFacts, InSpan, known, both_cover, then_covers, more_covers, value_is, link_covers, link_in, convert_covers, convert_in}
 use Rattle.sa_reference.proofs.PointLaws.{Points, HoldsOf, InNum, NamesAll, AreOf, to_held, from_held, to_in, from_in, assigned_holds, assigned_in}
 use Rattle.sa_reference.proofs.AccessLaws.{Led, CellsKnown, led, cells_known, whole_named, whole_of}
 use Rattle.sa_reference.proofs.InitialLaws.{AreNumbers, any_cover, number_of, of_within, single_in, Begins, cells_begin, begins_within, Fits, zero_of}

@@ -36,7 +36,7 @@ use Rattle.sa_reference.proofs.Laws.{IfAlive, Covers}
 use Rattle.sa_reference.proofs.SpanLaws.{and_left, and_right, both_true}
 use Rattle.sa_reference.proofs.EnvLaws.{range_in}
 use Rattle.sa_reference.proofs.CellLaws.{AllOf}
-use Rattle.sa_reference.proofs.ValueLaws.{OperatorFacts, InSpan, Known, known, both_cover, then_covers, more_covers, value_is, link_covers, link_in, convert_covers, convert_in}
+use Rattle.sa_reference.proofs.ValueLaws.{OperatorFacts, InSpan, span_in, known, both_cover, then_covers, more_covers, value_is, link_covers, link_in, convert_covers, convert_in}
 use Rattle.sa_reference.proofs.PointLaws.{NamesAll, AreOf}
 use Rattle.sa_reference.proofs.AccessLaws.{Led, CellsKnown, led, cells_known, whole_named, whole_of}
 use Rattle.sa_reference.proofs.InitialLaws.{AreNumbers, any_cover, of_within}
@@ -46,16 +46,19 @@ number_is : (k i : ℕ) → (k == i) ≡ true → k ≡ i
 number_is k i h = grind (arith, nat_tests)
 
 module _ (p : Program) (w : Setting) (F : OperatorFacts) (within : IsWithin p w) (here : Here) (store : Store) (time : ℤ) (env : Flat) (fair : AreIn (cells p) env.cells) (holds : Holds p env store time) where
-  value_known : (a : Expr) → IsTypedExpr p a → (tape : List ℤ) → Known p w F within here store env fair holds.cells (type_of a) (span_of p w env a) (alarms_of p w env a) (eval w here store a tape)
+  value_known : (a : Expr) → IsTypedExpr p a → (tape : List ℤ) → Covers (InSpan (span_of p w env a)) (alarms_of p w env a) (eval w here store a tape)
   value_known a t tape = known p w F within here store env fair holds.cells a t tape
+
+  value_in : (a : Expr) → IsTypedExpr p a → IfAlive (λ s. IsIn (type_of a) s) (span_of p w env a)
+  value_in a t = span_in p w F within env fair a t
 
   -- a value as it is assigned
   converted_known : (num : Num) (q : Pos) (a : Expr) → IsTypedExpr p a → (tape : List ℤ) →
       Covers (InSpan (value_as num (span_of p w env a))) (alarms_of p w env a ++ assign_alarms num q (span_of p w env a)) (converted_value w here store num q a tape)
   converted_known num q a t tape =
       both_cover (InSpan (span_of p w env a)) (InSpan (value_as num (span_of p w env a))) (alarms_of p w env a) (assign_alarms num q (span_of p w env a)) (eval w here store a tape)
-      (λ z tape. given q (converted num z) tape) (value_known a t tape).covers
-      (λ z tape i. convert_covers F q (type_of a) num (span_of p w env a) z tape (value_known a t tape).stays i)
+      (λ z tape. given q (converted num z) tape) (value_known a t tape)
+      (λ z tape i. convert_covers F q (type_of a) num (span_of p w env a) z tape (value_in a t) i)
 
   compound_known : (num : Num) (op : Operator) (work : Num) (q : Pos) (o : Option Span) (x : ℤ) (a : Expr) → IsTypedExpr p a → IsLink op num work (type_of a) → IfAlive (λ s. IsIn num s) o → InSpan o x → (tape : List ℤ) →
       Covers (InSpan (value_as num (linked op work o (span_of p w env a))))
@@ -64,10 +67,10 @@ module _ (p : Program) (w : Setting) (F : OperatorFacts) (within : IsWithin p w)
   compound_known num op work q o x a t l h i tape =
       let s = span_of p w env a in
       both_cover (InSpan s) (InSpan (value_as num (linked op work o s))) (alarms_of p w env a) (with_both o s (operator_alarms op q work) ++ assign_alarms num q (linked op work o s)) (eval w here store a tape)
-      (λ y tape. then_value (given q (operate op work x y) tape) (λ z tape. given q (converted num z) tape)) (value_known a t tape).covers
+      (λ y tape. then_value (given q (operate op work x y) tape) (λ z tape. given q (converted num z) tape)) (value_known a t tape)
       (λ y tape j. both_cover (InSpan (linked op work o s)) (InSpan (value_as num (linked op work o s))) (with_both o s (operator_alarms op q work)) (assign_alarms num q (linked op work o s)) (given q (operate op work x y) tape)
-      (λ z tape. given q (converted num z) tape) (link_covers F op q num work (type_of a) o s x y tape l h (value_known a t tape).stays i j)
-      (λ z tape k. convert_covers F q _ num (linked op work o s) z tape (link_in F op num work (type_of a) o s l h (value_known a t tape).stays) k))
+      (λ z tape. given q (converted num z) tape) (link_covers F op q num work (type_of a) o s x y tape l h (value_in a t) i j)
+      (λ z tape k. convert_covers F q _ num (linked op work o s) z tape (link_in F op num work (type_of a) o s l h (value_in a t)) k))
 
   -- ---- declarations
   abbrev zs_of : ℕ → List ℤ
@@ -127,7 +130,7 @@ module _ (p : Program) (w : Setting) (F : OperatorFacts) (within : IsWithin p w)
       (alarms_of p w env a ++ assign_alarms num q (span_of p w env a)) (converted_value w here store num q a tape) (λ z tape. Gives (stored (place_of here v []) z store) tape)
       (converted_known num q a t.0 tape) (λ a m. m) (λ a m. absurd m)
       (λ z tape i. assign_holds p env store time (place_of here v []) z (Some (named p v [])) (value_as num (span_of p w env a)) holds
-      (whole_named p w F within here store env fair holds.cells v num is) i)
+      (whole_named p here v num is) i)
     where
       leaf_is : (l : Layout) (num : Num) → l ≡ leaf num → l ≡ leaf (num_in l)
       leaf_is l num h = h ∙ ap leaf (sym (ap num_in h))
@@ -159,18 +162,38 @@ module _ (p : Program) (w : Setting) (F : OperatorFacts) (within : IsWithin p w)
       (λ at tape. then_value (compound_value w here store num op work q (store at) a tape) (λ z tape. Gives (stored at z store) tape)) (led p w F within here store env fair holds.cells r num t.0 tape)
       (λ at tape l. then_covers (InSpan s) (λ st. HoldsAfter p time (assign_to p env (read_cells p w env r) s) st) more [] more (compound_value w here store num op work q (store at) a tape)
       (λ z tape. Gives (stored at z store) tape)
-      (compound_known num op work q o (store at) a t.1.0 t.1.1 (cells_known p w F within here store env fair holds.cells r num t.0).reads l.reads tape) (λ a m. m) (λ a m. absurd m)
+      (compound_known num op work q o (store at) a t.1.0 t.1.1 (cells_known p w F within env fair r num t.0).reads l.reads tape) (λ a m. m) (λ a m. absurd m)
       (λ z tape i. assign_holds p env store time at z (read_cells p w env r) s holds l.named i))
 
 -- ---- what statements keep
 module _ (p : Program) (w : Setting) (F : OperatorFacts) (within : IsWithin p w) (typed : IsTyped p) (m : ℤ) (env : Flat) (fair : IsFair p m env) where
-  -- some store of which the environment may be asked; nothing here hangs on what it holds
-  declare_keeps : (here : Here) (store : Store) (holds : AllHold (cells p) env.cells store) (v : ℕ) (s : Start) → IsTypedStart p v s → IfAlive (IsFair p m) (declare_of p w v s env)
+  value_as_in : (num : Num) (a : Expr) → IsTypedExpr p a → IfAlive (λ s. IsIn num s) (value_as num (span_of p w env a))
+  value_as_in num a t = convert_in F (type_of a) num (span_of p w env a) (span_in p w F within env fair.cells a t)
+
+  declare_keeps : (v : ℕ) (s : Start) → IsTypedStart p v s → IfAlive (IsFair p m) (declare_of p w v s env)
   unfolding declare_of cell_range
-  declare_keeps here store holds v begins.Any t = record { ordered = fair.ordered; clock = fair.clock; cells = set_in cell_range v (cells p) env.cells (all_each _ (cells p) (λ c e. range_in c.num)) fair.cells }
-  declare_keeps here store holds v begins.Items t = record {
+  declare_keeps v begins.Any t = record { ordered = fair.ordered; clock = fair.clock; cells = set_in cell_range v (cells p) env.cells (all_each _ (cells p) (λ c e. range_in c.num)) fair.cells }
+  declare_keeps v begins.Items t = record {
     ordered = fair.ordered;
     clock = fair.clock;
     cells = set_in (items_span p) v (cells p) env.cells (all_map _ _ (cells p) (λ c h e. h) (items_in p typed)) fair.cells;
   }
-  declare_keeps here store holds v (begins.Value q a) t = ?
+  declare_keeps v (begins.Value q a) t =
+      let num = num_in (layout_of p v) in
+      assign_fair p m env num (Some (named p v [])) (value_as num (span_of p w env a)) fair
+      (whole_of p w F within env fair.cells v num (leaf_is (layout_of p v) t.1.0 t.1.1)) (value_as_in num a t.0)
+    where
+      leaf_is : (l : Layout) (num : Num) → l ≡ leaf num → l ≡ leaf (num_in l)
+      leaf_is l num h = h ∙ ap leaf (sym (ap num_in h))
+
+  assign_keeps : (x : Access) (num : Num) (q : Pos) (a : Expr) → IsTypedSimple p (Assign x num q a) → IfAlive (IsFair p m) (simple_of p w (Assign x num q a) env)
+  unfolding simple_of
+  assign_keeps x num q a t = assign_fair p m env num (access_cells p w env x) _ fair (cells_known p w F within env fair.cells (e.Read x I32) num t.0).types (value_as_in num a t.1)
+
+  compound_keeps : (x : Access) (num : Num) (op : Operator) (q : Pos) (work : Num) (a : Expr) → IsTypedSimple p (Compound x num op q work a) → IfAlive (IsFair p m) (simple_of p w (Compound x num op q work a) env)
+  unfolding simple_of
+  compound_keeps x num op q work a t =
+      let k = cells_known p w F within env fair.cells (e.Read x I32) num t.0 in
+      let o = read_of env (access_cells p w env x) in
+      assign_fair p m env num (access_cells p w env x) _ fair k.types
+      (convert_in F _ num (linked op work o (span_of p w env a)) (link_in F op num work (type_of a) o (span_of p w env a) t.1.1 k.reads (span_in p w F within env fair.cells a t.1.0)))

@@ -234,39 +234,7 @@ pub regroup : (a : Alarm) (some first second rest : List Alarm) → IsAmong a ((
 regroup a some first second rest m =
     subst (λ (xs : List Alarm). IsAmong a xs) (append_assoc some (first ++ second) rest ∙ ap (λ (xs : List Alarm). some ++ xs) (append_assoc first second rest)) m
 
-module _ (p : Program) (w : Setting) (F : OperatorFacts) (within : IsWithin p w) (here : Here) (store : Store) (env : Flat) (fair : AreIn (cells p) env.cells) (holds : AllHold (cells p) env.cells store) where
-  -- what is known of an expression of a type
-  pub record Known (num : Num) (o : Option Span) (alarms : List Alarm) (v : Value ℤ) : Type 0 where
-    pub stays : IfAlive (λ s. IsIn num s) o
-    pub covers : Covers (InSpan o) alarms v
-
-  -- the parts that steps give are among those that an access may take
-  abbrev pub StepsTaken : {n : _} → Row_of-Step n → Layout → Layout → List Part → Type 0
-  StepsTaken r m l parts = AliveAnd (λ rs. Matches rs parts) (reaches_of p w env r) × (parts_layout (Some m) parts ≡ Some l)
-
-  followed : (r : Option Reach) (rs : Option (List Reach)) (s : Part) (parts : List Part) → AliveAnd (λ r. MatchesStep r s) r → AliveAnd (λ rs. Matches rs parts) rs →
-      AliveAnd (λ rs. Matches rs (s ∷ parts)) (alive_then r (λ r. option_map (λ rs. r ∷ rs) rs))
-  unfolding Matches
-  followed None rs s parts h k = absurd h
-  followed (Some r) None s parts h k = absurd k
-  followed (Some r) (Some rs) s parts h k = (h, k)
-
-  -- a step, and then the rest
-  step_then : {n : _} (m k l : Layout) (s : Step) (rest : Row_of-Step n) (tape : List ℤ) → Covers (Taken (reach_of p w env s) m k) (step_alarms p w env s) (step_value w here store s tape) →
-      ((tape : List ℤ) → Covers (StepsTaken rest k l) (steps_alarms p w env rest) (steps_value w here store rest tape)) →
-      Covers (StepsTaken (more_of-Step s rest) m l) (steps_alarms p w env (more_of-Step s rest)) (steps_value w here store (more_of-Step s rest) tape)
-  unfolding eval span_of alarms_of parts_layout
-  step_then m k l s rest tape h g =
-      both_cover (Taken (reach_of p w env s) m k) (StepsTaken (more_of-Step s rest) m l) (step_alarms p w env s) (steps_alarms p w env rest) (step_value w here store s tape)
-      (λ s tape. then_value (steps_value w here store rest tape) (λ parts tape. Gives (s ∷ parts) tape)) h
-      (λ s tape t. value_then (steps_value w here store rest tape) s t (g tape))
-    where
-      value_then : (v : Value (List Part)) (q : Part) → Taken (reach_of p w env s) m k q → Covers (StepsTaken rest k l) (steps_alarms p w env rest) v →
-          Covers (StepsTaken (more_of-Step s rest) m l) (steps_alarms p w env rest) (then_value v (λ parts tape. Gives (q ∷ parts) tape))
-      value_then (Gives parts tape) q t h =
-          (followed (reach_of p w env s) (reaches_of p w env rest) q parts t.0 h.0, ap (λ (o : Option Layout). parts_layout o parts) t.1 ∙ h.1)
-      value_then (Stops e) q t h = h
-
+module _ (p : Program) (w : Setting) (F : OperatorFacts) (within : IsWithin p w) (env : Flat) (fair : AreIn (cells p) env.cells) where
   -- ---- what is read
   pub joined_in : (v : ℕ) (rs : List Reach) (num : Num) (cs : List Cell) (k : ℕ) (whole ss : List Span) → Tail k whole ss → AreIn cs ss →
       AllOf (λ c. c.var ≡ v → reaches rs c.steps ≡ true → c.num ≡ num) cs → IfAlive (λ s. IsIn num s) (joined whole (named_from k cs v rs))
@@ -329,43 +297,18 @@ module _ (p : Program) (w : Setting) (F : OperatorFacts) (within : IsWithin p w)
       field_first (Some rs) (row n x) k e h = cc
       field_first (Some rs) (fields ls) k e h = ap (λ (o : Option Layout). reaches_layout o rs) e ∙ h
 
-  -- ---- expressions
-  pub read_known : {n : _} (v : ℕ) (r : Row_of-Step n) (num : Num) (tape : List ℤ) → steps_layout (Some (layout_of p v)) r ≡ Some (leaf num) →
-      Covers (StepsTaken r (layout_of p v) (leaf num)) (steps_alarms p w env r) (steps_value w here store r tape) →
-      Known num (alive_then (reaches_of p w env r) (λ rs. joined env.cells (named p v rs))) (steps_alarms p w env r)
-      (then_value (steps_value w here store r tape) (λ parts tape. Gives (store (place_of here v parts)) tape))
+  whole : Tail 0 env.cells env.cells
+  whole j = ap (λ (i : ℕ). cell_span env.cells i) (omega arith)
+
+  -- what is read of the cells of an element's type
+  pub read_stays : (v : ℕ) (rs : List Reach) (num : Num) → reaches_layout (Some (layout_of p v)) rs ≡ Some (leaf num) → IfAlive (λ s. IsIn num s) (joined env.cells (named p v rs))
   unfolding named
-  read_known v r num tape l c = record {
-    stays = stay (reaches_of p w env r) (reach_follows r (layout_of p v) (leaf num) l);
-    covers = then_covers (StepsTaken r (layout_of p v) (leaf num)) (InSpan (alive_then (reaches_of p w env r) (λ rs. joined env.cells (named p v rs)))) (steps_alarms p w env r) []
-        (steps_alarms p w env r) (steps_value w here store r tape) (λ parts tape. Gives (store (place_of here v parts)) tape) c (λ a m. m) (λ a m. absurd m)
-        (λ parts tape t. within_read (reaches_of p w env r) parts t.0 t.1);
-  }
-    where
-      whole : Tail 0 env.cells env.cells
-      whole j = ap (λ (i : ℕ). cell_span env.cells i) (omega arith)
-
-      stay : (o : Option (List Reach)) → IfAlive (λ rs. reaches_layout (Some (layout_of p v)) rs ≡ Some (leaf num)) o → IfAlive (λ s. IsIn num s) (alive_then o (λ rs. joined env.cells (named p v rs)))
-      stay None h = tt
-      stay (Some rs) h = joined_in v rs num (cells p) 0 env.cells env.cells whole fair (named_num v rs num h)
-
-      within_read : (o : Option (List Reach)) (parts : List Part) → AliveAnd (λ rs. Matches rs parts) o → parts_layout (Some (layout_of p v)) parts ≡ Some (leaf num) →
-          InSpan (alive_then o (λ rs. joined env.cells (named p v rs))) (store (place_of here v parts))
-      within_read None parts m l = absurd m
-      within_read (Some rs) parts m l = read_within v rs parts m store (cells p) 0 env.cells env.cells whole holds (place_cell p v parts num l)
+  read_stays v rs num h = joined_in v rs num (cells p) 0 env.cells env.cells whole fair (named_num v rs num h)
 
   some_get : {A : Type 0} (xs : List A) (k : ℕ) (a d : A) → slice_get xs k ≡ Some a → get_or xs k d ≡ a
   some_get [] k a d h = cc
   some_get (x ∷ xs) zero a d h = cc
   some_get (x ∷ xs) (suc k) a d h = some_get xs k a d h
-
-  read_input : (r : Range) (tape : List ℤ) → Covers (λ z. Within (record { lo = r.lo; hi = r.hi }) z) [] (read r tape)
-  read_input r [] = tt
-  read_input r (z ∷ tape) =
-      elim (is_in r z) as (λ b. is_in r z ≡ b → Covers (λ z. Within (record { lo = r.lo; hi = r.hi }) z) [] (if b then Gives z tape else Stops Blocked)) [
-        | true ↦ λ e. record { above = le_fact r.lo z (and_left _ _ e); below = le_fact z r.hi (and_right _ _ e) }
-        | false ↦ λ e. tt
-      ] refl
 
   input_in : (k : ℕ) (num : Num) → num_of_input (slice_get p.inputs k) ≡ Some num → IsIn num (input_span w k)
   input_in k num h = from (slice_get p.inputs k) refl h
@@ -383,48 +326,118 @@ module _ (p : Program) (w : Setting) (F : OperatorFacts) (within : IsWithin p w)
   number_in : (n : ℕ) (num : Num) → IsTrue (is_of num (pos n)) → IsIn num (single (pos n))
   number_in n num h = record { ordered = omega (arith, ints); part = record { above = le_fact _ _ (and_left _ _ h); below = le_fact _ _ (and_right _ _ h) } }
 
+  -- ---- spans stay in their types
+  read_in : {n : _} (v : ℕ) (r : Row_of-Step n) (num : Num) → steps_layout (Some (layout_of p v)) r ≡ Some (leaf num) →
+      IfAlive (λ s. IsIn num s) (alive_then (reaches_of p w env r) (λ rs. joined env.cells (named p v rs)))
+  read_in v r num l = stay (reaches_of p w env r) (reach_follows r (layout_of p v) (leaf num) l)
+    where
+      stay : (o : Option (List Reach)) → IfAlive (λ rs. reaches_layout (Some (layout_of p v)) rs ≡ Some (leaf num)) o → IfAlive (λ s. IsIn num s) (alive_then o (λ rs. joined env.cells (named p v rs)))
+      stay None h = tt
+      stay (Some rs) h = read_stays v rs num h
+
+  mutual
+    unfolding span_of IsTypedExpr type_of links_type
+    pub span_in : (e : Expr) → IsTypedExpr p e → IfAlive (λ s. IsIn (type_of e) s) (span_of p w env e)
+    span_in (Number n num) t = number_in n num t
+    span_in (Read' v n steps num) t = read_in v steps num t.1
+    span_in (Input k num) t = input_in k num t
+    span_in (Prefix' op q num n (more_of-Expr a end_of-Expr)) t = prefix_in F op (type_of a) num (span_of p w env a) t.1 (span_in a t.0)
+    span_in (Cast' q num n (more_of-Expr a end_of-Expr)) t = convert_in F (type_of a) num (span_of p w env a) (span_in a t)
+    span_in (Chain' n (more_of-Expr a end_of-Expr) m ls) t = links_in ls (type_of a) (span_of p w env a) t.1 (span_in a t.0)
+
+    pub links_in : {n : _} (ls : Row_of-Link n) (left : Num) (o : Option Span) → AreTypedLinks p left ls → IfAlive (λ s. IsIn left s) o → IfAlive (λ s. IsIn (links_type left ls) s) (links_span p w env ls o)
+    links_in end_of-Link left o t h = h
+    links_in (more_of-Link op q work b rest) left o t h =
+        links_in rest (result_type op work) (linked op work o (span_of p w env b)) t.1.1 (link_in F op left work (type_of b) o (span_of p w env b) t.1.0 h (span_in b t.0))
+
+module _ (p : Program) (w : Setting) (F : OperatorFacts) (within : IsWithin p w) (here : Here) (store : Store) (env : Flat) (fair : AreIn (cells p) env.cells) (holds : AllHold (cells p) env.cells store) where
+  -- the parts that steps give are among those that an access may take
+  abbrev pub StepsTaken : {n : _} → Row_of-Step n → Layout → Layout → List Part → Type 0
+  StepsTaken r m l parts = AliveAnd (λ rs. Matches rs parts) (reaches_of p w env r) × (parts_layout (Some m) parts ≡ Some l)
+
+  followed : (r : Option Reach) (rs : Option (List Reach)) (s : Part) (parts : List Part) → AliveAnd (λ r. MatchesStep r s) r → AliveAnd (λ rs. Matches rs parts) rs →
+      AliveAnd (λ rs. Matches rs (s ∷ parts)) (alive_then r (λ r. option_map (λ rs. r ∷ rs) rs))
+  unfolding Matches
+  followed None rs s parts h k = absurd h
+  followed (Some r) None s parts h k = absurd k
+  followed (Some r) (Some rs) s parts h k = (h, k)
+
+  -- a step, and then the rest
+  step_then : {n : _} (m k l : Layout) (s : Step) (rest : Row_of-Step n) (tape : List ℤ) → Covers (Taken (reach_of p w env s) m k) (step_alarms p w env s) (step_value w here store s tape) →
+      ((tape : List ℤ) → Covers (StepsTaken rest k l) (steps_alarms p w env rest) (steps_value w here store rest tape)) →
+      Covers (StepsTaken (more_of-Step s rest) m l) (steps_alarms p w env (more_of-Step s rest)) (steps_value w here store (more_of-Step s rest) tape)
+  unfolding eval span_of alarms_of parts_layout
+  step_then m k l s rest tape h g =
+      both_cover (Taken (reach_of p w env s) m k) (StepsTaken (more_of-Step s rest) m l) (step_alarms p w env s) (steps_alarms p w env rest) (step_value w here store s tape)
+      (λ s tape. then_value (steps_value w here store rest tape) (λ parts tape. Gives (s ∷ parts) tape)) h
+      (λ s tape t. value_then (steps_value w here store rest tape) s t (g tape))
+    where
+      value_then : (v : Value (List Part)) (q : Part) → Taken (reach_of p w env s) m k q → Covers (StepsTaken rest k l) (steps_alarms p w env rest) v →
+          Covers (StepsTaken (more_of-Step s rest) m l) (steps_alarms p w env rest) (then_value v (λ parts tape. Gives (q ∷ parts) tape))
+      value_then (Gives parts tape) q t h =
+          (followed (reach_of p w env s) (reaches_of p w env rest) q parts t.0 h.0, ap (λ (o : Option Layout). parts_layout o parts) t.1 ∙ h.1)
+      value_then (Stops e) q t h = h
+
+  -- ---- expressions
+  read_known : {n : _} (v : ℕ) (r : Row_of-Step n) (num : Num) (tape : List ℤ) →
+      Covers (StepsTaken r (layout_of p v) (leaf num)) (steps_alarms p w env r) (steps_value w here store r tape) →
+      Covers (InSpan (alive_then (reaches_of p w env r) (λ rs. joined env.cells (named p v rs)))) (steps_alarms p w env r)
+      (then_value (steps_value w here store r tape) (λ parts tape. Gives (store (place_of here v parts)) tape))
+  unfolding named
+  read_known v r num tape c =
+      then_covers (StepsTaken r (layout_of p v) (leaf num)) (InSpan (alive_then (reaches_of p w env r) (λ rs. joined env.cells (named p v rs)))) (steps_alarms p w env r) []
+      (steps_alarms p w env r) (steps_value w here store r tape) (λ parts tape. Gives (store (place_of here v parts)) tape) c (λ a m. m) (λ a m. absurd m)
+      (λ parts tape t. within_read (reaches_of p w env r) parts t.0 t.1)
+    where
+      all : Tail 0 env.cells env.cells
+      all j = ap (λ (i : ℕ). cell_span env.cells i) (omega arith)
+
+      within_read : (o : Option (List Reach)) (parts : List Part) → AliveAnd (λ rs. Matches rs parts) o → parts_layout (Some (layout_of p v)) parts ≡ Some (leaf num) →
+          InSpan (alive_then o (λ rs. joined env.cells (named p v rs))) (store (place_of here v parts))
+      within_read None parts m l = absurd m
+      within_read (Some rs) parts m l = read_within v rs parts m store (cells p) 0 env.cells env.cells all holds (place_cell p v parts num l)
+
+  read_input : (r : Range) (tape : List ℤ) → Covers (λ z. Within (record { lo = r.lo; hi = r.hi }) z) [] (read r tape)
+  read_input r [] = tt
+  read_input r (z ∷ tape) =
+      elim (is_in r z) as (λ b. is_in r z ≡ b → Covers (λ z. Within (record { lo = r.lo; hi = r.hi }) z) [] (if b then Gives z tape else Stops Blocked)) [
+        | true ↦ λ e. record { above = le_fact r.lo z (and_left _ _ e); below = le_fact z r.hi (and_right _ _ e) }
+        | false ↦ λ e. tt
+      ] refl
+
   mutual
     unfolding eval span_of alarms_of IsTypedExpr type_of links_type steps_layout parts_layout Matches
-    pub known : (e : Expr) → IsTypedExpr p e → (tape : List ℤ) → Known (type_of e) (span_of p w env e) (alarms_of p w env e) (eval w here store e tape)
-    known (Number n num) t tape = record { stays = number_in n num t; covers = single_within (pos n) }
-    known (Read' v n steps num) t tape = read_known v steps num tape t.1 (steps_known steps (layout_of p v) (leaf num) t.0 t.1 tape)
-    known (Input k num) t tape = record { stays = input_in k num t; covers = read_input (range_of w k) tape }
+    pub known : (e : Expr) → IsTypedExpr p e → (tape : List ℤ) → Covers (InSpan (span_of p w env e)) (alarms_of p w env e) (eval w here store e tape)
+    known (Number n num) t tape = single_within (pos n)
+    known (Read' v n steps num) t tape = read_known v steps num tape (steps_known steps (layout_of p v) (leaf num) t.0 t.1 tape)
+    known (Input k num) t tape = read_input (range_of w k) tape
     known (Prefix' op q num n (more_of-Expr a end_of-Expr)) t tape =
-        let k = known a t.0 tape in
-        record {
-          stays = prefix_in F op (type_of a) num (span_of p w env a) t.1 k.stays;
-          covers = both_cover (InSpan (span_of p w env a)) (InSpan (alive_then (span_of p w env a) (prefix_span op num))) (alarms_of p w env a) (with_one (span_of p w env a) (prefix_alarms op q num))
-              (eval w here store a tape) (λ x tape. given q (prefixed op num x) tape) k.covers
-              (λ x tape i. prefix_covers F op q (type_of a) num (span_of p w env a) x tape t.1 k.stays i);
-        }
+        both_cover (InSpan (span_of p w env a)) (InSpan (alive_then (span_of p w env a) (prefix_span op num))) (alarms_of p w env a) (with_one (span_of p w env a) (prefix_alarms op q num))
+        (eval w here store a tape) (λ x tape. given q (prefixed op num x) tape) (known a t.0 tape)
+        (λ x tape i. prefix_covers F op q (type_of a) num (span_of p w env a) x tape t.1 (span_in p w F within env fair a t.0) i)
     known (Cast' q num n (more_of-Expr a end_of-Expr)) t tape =
-        let k = known a t tape in
-        record {
-          stays = convert_in F (type_of a) num (span_of p w env a) k.stays;
-          covers = both_cover (InSpan (span_of p w env a)) (InSpan (alive_then (span_of p w env a) (converted_span num))) (alarms_of p w env a) (with_one (span_of p w env a) (conversion_alarms num q))
-              (eval w here store a tape) (λ x tape. given q (converted num x) tape) k.covers
-              (λ x tape i. convert_covers F q (type_of a) num (span_of p w env a) x tape k.stays i);
-        }
+        both_cover (InSpan (span_of p w env a)) (InSpan (alive_then (span_of p w env a) (converted_span num))) (alarms_of p w env a) (with_one (span_of p w env a) (conversion_alarms num q))
+        (eval w here store a tape) (λ x tape. given q (converted num x) tape) (known a t tape)
+        (λ x tape i. convert_covers F q (type_of a) num (span_of p w env a) x tape (span_in p w F within env fair a t) i)
     known (Chain' n (more_of-Expr a end_of-Expr) m ls) t tape =
-        let k = known a t.0 tape in
-        links_known ls (type_of a) (span_of p w env a) (alarms_of p w env a) (eval w here store a tape) t.1 k.stays k.covers
+        links_known ls (type_of a) (span_of p w env a) (alarms_of p w env a) (eval w here store a tape) t.1 (span_in p w F within env fair a t.0) (known a t.0 tape)
 
     links_known : {n : _} (ls : Row_of-Link n) (left : Num) (o : Option Span) (some : List Alarm) (v : Value ℤ) → AreTypedLinks p left ls → IfAlive (λ s. IsIn left s) o → Covers (InSpan o) some v →
-        Known (links_type left ls) (links_span p w env ls o) (some ++ links_alarms p w env ls o) (links_value w here store ls v)
-    links_known end_of-Link left o some v t h c = record { stays = h; covers = more_covers (InSpan o) some (some ++ []) v (λ a m. among_left a some [] m) c }
+        Covers (InSpan (links_span p w env ls o)) (some ++ links_alarms p w env ls o) (links_value w here store ls v)
+    links_known end_of-Link left o some v t h c = more_covers (InSpan o) some (some ++ []) v (λ a m. among_left a some [] m) c
     links_known (more_of-Link op q work b rest) left o some v t h c =
-        let kb = known b t.0 [] in
+        let kb = span_in p w F within env fair b t.0 in
         let first = alarms_of p w env b in
         let second = with_both o (span_of p w env b) (operator_alarms op q work) in
         let next = linked op work o (span_of p w env b) in
         let step = both_cover (InSpan o) (InSpan next) some (first ++ second) v (λ x tape. then_value (eval w here store b tape) (λ y tape. given q (operate op work x y) tape)) c
-            (λ x tape i. both_cover (InSpan (span_of p w env b)) (InSpan next) first second (eval w here store b tape) (λ y tape. given q (operate op work x y) tape) (known b t.0 tape).covers
-            (λ y tape j. link_covers F op q left work (type_of b) o (span_of p w env b) x y tape t.1.0 h kb.stays i j)) in
+            (λ x tape i. both_cover (InSpan (span_of p w env b)) (InSpan next) first second (eval w here store b tape) (λ y tape. given q (operate op work x y) tape) (known b t.0 tape)
+            (λ y tape j. link_covers F op q left work (type_of b) o (span_of p w env b) x y tape t.1.0 h kb i j)) in
         let k = links_known rest (result_type op work) next (some ++ (first ++ second)) (then_value v (λ x tape. then_value (eval w here store b tape) (λ y tape. given q (operate op work x y) tape)))
-            t.1.1 (link_in F op left work (type_of b) o (span_of p w env b) t.1.0 h kb.stays) step in
-        record { stays = k.stays; covers = more_covers (InSpan (links_span p w env rest next)) ((some ++ (first ++ second)) ++ links_alarms p w env rest next) (some ++ (first ++ (second ++ links_alarms p w env rest next)))
-            (links_value w here store rest (then_value v (λ x tape. then_value (eval w here store b tape) (λ y tape. given q (operate op work x y) tape))))
-            (λ a m. regroup a some first second (links_alarms p w env rest next) m) k.covers }
+            t.1.1 (link_in F op left work (type_of b) o (span_of p w env b) t.1.0 h kb) step in
+        more_covers (InSpan (links_span p w env rest next)) ((some ++ (first ++ second)) ++ links_alarms p w env rest next) (some ++ (first ++ (second ++ links_alarms p w env rest next)))
+        (links_value w here store rest (then_value v (λ x tape. then_value (eval w here store b tape) (λ y tape. given q (operate op work x y) tape))))
+        (λ a m. regroup a some first second (links_alarms p w env rest next) m) k
 
     pub steps_known : {n : _} (r : Row_of-Step n) (m l : Layout) → AreTypedSteps p r → steps_layout (Some m) r ≡ Some l → (tape : List ℤ) →
         Covers (StepsTaken r m l) (steps_alarms p w env r) (steps_value w here store r tape)
@@ -437,6 +450,6 @@ module _ (p : Program) (w : Setting) (F : OperatorFacts) (within : IsWithin p w)
         row_step m k q n j a e (λ is. subst (λ (m : Layout). Covers (Taken (index_reach n (span_of p w env a)) m k) (step_alarms p w env (At' q n j (more_of-Expr a end_of-Expr)))
         (step_value w here store (At' q n j (more_of-Expr a end_of-Expr)) tape)) (sym is)
         (both_cover (InSpan (span_of p w env a)) (Taken (index_reach n (span_of p w env a)) (row n k) k) (alarms_of p w env a) (with_one (span_of p w env a) (index_alarms q n))
-        (eval w here store a tape) (λ i tape. then_value (checked_index q n i tape) (λ i tape. Gives (part.At i) tape)) (known a t tape).covers
+        (eval w here store a tape) (λ i tape. then_value (checked_index q n i tape) (λ i tape. Gives (part.At i) tape)) (known a t tape)
         (λ z tape i. index_covers q n k (span_of p w env a) z tape i)))
     step_known (Field f) m k t e tape = field_step m k f e (λ h. (refl, h))
