@@ -11,3 +11,4 @@ pub mod AccessLaws
 pub mod InitialLaws
 pub mod AssignLaws
 pub mod SimpleLaws
+pub mod FixedLaws
