@@ -30,7 +30,7 @@ use Rattle.sa_reference.proofs.PointLaws.{NamesAll, AreOf}
 
 -- ---- cells by their numbers
 -- a cell that passes the test is named
-named_has : (v : ℕ) (rs : List Reach) (cs : List Cell) (k j : ℕ) (c : Cell) → slice_get cs j ≡ Some c → (c.var == v && reaches rs c.steps) ≡ true → IsAmong (k + j) (named_from k cs v rs)
+pub named_has : (v : ℕ) (rs : List Reach) (cs : List Cell) (k j : ℕ) (c : Cell) → slice_get cs j ≡ Some c → (c.var == v && reaches rs c.steps) ≡ true → IsAmong (k + j) (named_from k cs v rs)
 unfolding named_from
 named_has v rs [] k j c e t = cc
 named_has v rs (d ∷ cs) k zero c e t =

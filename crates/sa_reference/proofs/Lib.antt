@@ -12,3 +12,4 @@ pub mod InitialLaws
 pub mod AssignLaws
 pub mod SimpleLaws
 pub mod FixedLaws
+pub mod CopyLaws

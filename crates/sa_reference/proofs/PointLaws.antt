@@ -219,7 +219,7 @@ weakly_adds (k ∷ ks) s ss j z l (inr m) h =
 abbrev pub AreOf : Num → List Cell → List ℕ → Type 0
 AreOf num cs ks = (k : ℕ) → IsAmong k ks → (c : Cell) → slice_get cs k ≡ Some c → c.num ≡ num
 
-put_in : (cs : List Cell) (k : ℕ) (s : Span) (ss : List Span) → ((c : Cell) → slice_get cs k ≡ Some c → IsIn c.num s) → Points InNum cs ss → Points InNum cs (put k s ss)
+pub put_in : (cs : List Cell) (k : ℕ) (s : Span) (ss : List Span) → ((c : Cell) → slice_get cs k ≡ Some c → IsIn c.num s) → Points InNum cs ss → Points InNum cs (put k s ss)
 put_in cs k s ss h p = record { long = put_long k s ss ∙ p.long; at = at }
   where
     inside : (j : ℕ) (c : Cell) → slice_get cs j ≡ Some c → j < length ss
