@@ -10,6 +10,10 @@ pub mod PointLaws
 pub mod AccessLaws
 pub mod InitialLaws
 pub mod AssignLaws
-pub mod SimpleLaws
 pub mod FixedLaws
 pub mod CopyLaws
+pub mod StructLaws
+pub mod SimpleLaws
+pub mod OperatorFacts
+pub mod IntervalLaws
+pub mod SoundLaws

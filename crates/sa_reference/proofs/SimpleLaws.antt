@@ -40,6 +40,7 @@ use Rattle.sa_reference.proofs.ValueLaws.{OperatorFacts, InSpan, span_in, known,
 use Rattle.sa_reference.proofs.PointLaws.{NamesAll, AreOf}
 use Rattle.sa_reference.proofs.AccessLaws.{Led, CellsKnown, led, cells_known, whole_named, whole_of}
 use Rattle.sa_reference.proofs.InitialLaws.{AreNumbers, any_cover, of_within}
+use Rattle.sa_reference.proofs.StructLaws.{copy_sound, copy_keeps}
 use Rattle.sa_reference.proofs.AssignLaws.{HoldsAfter, assign_holds, assign_fair, set_in, set_holds, cell_leads, cell_begins, items_in, all_map, all_each}
 
 number_is : (k i : ℕ) → (k == i) ≡ true → k ≡ i
@@ -197,3 +198,19 @@ module _ (p : Program) (w : Setting) (F : OperatorFacts) (within : IsWithin p w)
       let o = read_of env (access_cells p w env x) in
       assign_fair p m env num (access_cells p w env x) _ fair k.types
       (convert_in F _ num (linked op work o (span_of p w env a)) (link_in F op num work (type_of a) o (span_of p w env a) t.1.1 k.reads (span_in p w F within env fair.cells a t.1.0)))
+
+-- ---- every simple statement
+pub simple_sound : (p : Program) (w : Setting) (F : OperatorFacts) → IsWithin p w → (here : Here) (store : Store) (time : ℤ) (env : Flat) → AreIn (cells p) env.cells → Holds p env store time →
+    (s : Simple) (tape : List ℤ) → IsTypedSimple p s → Covers (λ st. HoldsAfter p time (simple_of p w s env) st) (simple_alarms p w s env) (simple_value p w here s store tape)
+unfolding simple_of simple_alarms simple_value
+simple_sound p w F within here store time env fair holds (Declare v s) tape t = declare_sound p w F within here store time env fair holds v s tape t
+simple_sound p w F within here store time env fair holds (Assign x num q a) tape t = assign_sound p w F within here store time env fair holds x num q a tape t
+simple_sound p w F within here store time env fair holds (Compound x num op q work a) tape t = compound_sound p w F within here store time env fair holds x num op q work a tape t
+simple_sound p w F within here store time env fair holds (Copy k x q y) tape t = copy_sound p w F within here store time env fair holds k x q y tape t
+
+pub simple_keeps : (p : Program) (w : Setting) (F : OperatorFacts) → IsWithin p w → IsTyped p → (m : ℤ) (env : Flat) → IsFair p m env → (s : Simple) → IsTypedSimple p s → IfAlive (IsFair p m) (simple_of p w s env)
+unfolding simple_of
+simple_keeps p w F within typed m env fair (Declare v s) t = declare_keeps p w F within typed m env fair v s t
+simple_keeps p w F within typed m env fair (Assign x num q a) t = assign_keeps p w F within typed m env fair x num q a t
+simple_keeps p w F within typed m env fair (Compound x num op q work a) t = compound_keeps p w F within typed m env fair x num op q work a t
+simple_keeps p w F within typed m env fair (Copy k x q y) t = copy_keeps p w m env fair k x q y t

@@ -175,7 +175,7 @@ index_in : (n : ℕ) (z : ℤ) → (int_le (pos 0) z && int_lt z (pos n)) ≡ tr
 index_in n z e = (record { above = grind (arith, ints); below = grind (arith, ints) }, grind (arith, ints))
 
 -- an index of a row leads to its element
-index_steps : (n : ℕ) (l : Layout) (z : ℤ) → (int_le (pos 0) z && int_lt z (pos n)) ≡ true → step_into (row n l) (part.At (unsigned_abs z)) ≡ Some l
+pub index_steps : (n : ℕ) (l : Layout) (z : ℤ) → (int_le (pos 0) z && int_lt z (pos n)) ≡ true → step_into (row n l) (part.At (unsigned_abs z)) ≡ Some l
 unfolding step_into
 index_steps n l (pos k) e = let t : nat_lt k n ≡ true = grind (arith, ints, nat_tests) in rw t refl
 index_steps n l (negsuc k) e = cc
@@ -208,14 +208,14 @@ no_steps : {A : Type 0} {n : _} (row : Row_of-Step n) (l : Layout) → steps_lay
 no_steps r l h = let e = sym (steps_none r) ∙ h in cc
 
 -- what a typed step leads to
-step_leads : {A : Type 0} {n : _} (m l : Layout) (s : Step) (rest : Row_of-Step n) → steps_layout (into (Some m) s) rest ≡ Some l → ((k : Layout) → typed_step m s ≡ Some k → steps_layout (Some k) rest ≡ Some l → A) → A
+pub step_leads : {A : Type 0} {n : _} (m l : Layout) (s : Step) (rest : Row_of-Step n) → steps_layout (into (Some m) s) rest ≡ Some l → ((k : Layout) → typed_step m s ≡ Some k → steps_layout (Some k) rest ≡ Some l → A) → A
 step_leads {A = A} m l s rest h go =
     elim (typed_step m s) as (λ o. typed_step m s ≡ o → steps_layout o rest ≡ Some l → A) [
       | None ↦ λ e h. no_steps rest l h
       | Some k ↦ λ e h. go k e h
     ] refl h
 
-row_step : {A : Type 0} (m k : Layout) (q : Pos) (n : ℕ) (j : _) (a : Expr) → typed_step m (At' q n j (more_of-Expr a end_of-Expr)) ≡ Some k → (m ≡ row n k → A) → A
+pub row_step : {A : Type 0} (m k : Layout) (q : Pos) (n : ℕ) (j : _) (a : Expr) → typed_step m (At' q n j (more_of-Expr a end_of-Expr)) ≡ Some k → (m ≡ row n k → A) → A
 row_step (leaf num) k q n j a h go = cc
 row_step (fields ls) k q n j a h go = cc
 row_step {A = A} (row m l) k q n j a h go =
@@ -224,7 +224,7 @@ row_step {A = A} (row m l) k q n j a h go =
       | false ↦ λ e h. cc
     ] refl h
 
-field_step : {A : Type 0} (m k : Layout) (f : ℕ) → typed_step m (Field f) ≡ Some k → (step_into m (part.Field f) ≡ Some k → A) → A
+pub field_step : {A : Type 0} (m k : Layout) (f : ℕ) → typed_step m (Field f) ≡ Some k → (step_into m (part.Field f) ≡ Some k → A) → A
 unfolding step_into
 field_step (leaf num) k f h go = cc
 field_step (row n l) k f h go = cc

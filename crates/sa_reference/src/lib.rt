@@ -6,7 +6,9 @@
 #![tactic(auto)]
 
 mod flat;
+mod soundness;
 mod reach;
 
 pub use flat::Flat;
+pub use soundness::is_sound;
 pub use reach::Reach;
