@@ -1,0 +1,4 @@
+pub mod Alarms
+pub mod Names
+pub mod Shown
+pub mod Report
