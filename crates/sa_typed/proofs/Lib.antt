@@ -1,1 +1,2 @@
 pub mod ArithmeticLaws
+mod Sample
