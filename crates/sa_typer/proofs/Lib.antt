@@ -1,1 +1,7 @@
-pub mod UnbuiltLemmas
+pub mod ScopeLemmas
+pub mod FirstRows
+pub mod Loops
+pub mod ShapeLemmas
+pub mod ConstantLemmas
+pub mod OperandRows
+pub mod SizeLemmas

@@ -1,0 +1,96 @@
+-- Counts that stop at the greatest one.
+use Rattle.std.proofs.Common.{◌≡◌, ⊎_elim, ◌⊎◌, zero, suc, ℕ, ◌+◌, ◌*◌, ◌-◌, ◌^◌, ◌<◌, ◌≤◌, min, List, [], ◌∷◌, ◌++◌, Bool, true, false, length, drop, get_or, map, refl, ap, sym, ◌∙◌, arith}
+use Rattle.std.proofs.lemmas.List.{drop_more, drop_all, map-append}
+use Rattle.std.proofs.Math.Nat.{suc-mul, zero-mul}
+use Rattle.std.proofs.lemmas.Bool.{cases_lt, true≢false}
+use Rattle.std.specs.Prelude.{Result, Ok, Err, OnOk}
+use Rattle.std.specs.Result.{is_err}
+use Rattle.sa_base.specs.declared.num.Num.{Num}
+use Rattle.sa_typed.specs.declared.shape.FieldDef.{FieldDef}
+use Rattle.sa_typed.specs.declared.shape.Shape.{Shape}
+use Rattle.sa_typed.specs.declared.shape.Shape.TheVariants as sh
+use Rattle.sa_typed.specs.declared.shape.StructDef.{StructDef}
+use Rattle.sa_typer.specs.Structures.{times, size_by, sum_by, field_shape, field_shapes, sizes_from, sizes_of, kept, AreCounted}
+
+-- ---- the greatest count
+pub kept-plus : (a b : ℕ) → kept (kept a + b) ≡ kept (a + b)
+kept-plus a b = omega arith
+
+pub kept-plus_right : (a b : ℕ) → kept (a + kept b) ≡ kept (a + b)
+kept-plus_right a b = omega arith
+
+suc_times : (a b : ℕ) → suc a * b ≡ b + a * b
+suc_times a b = let h = suc-mul a b in omega (arith, h)
+
+-- a count times one that is too large
+at_most : (a b g : ℕ) → g ≤ b → min (suc a * g) g ≡ min (suc a * b) g
+at_most a b g h = let left : g ≤ suc a * g = omega (arith, suc_times a g) in let right : b ≤ suc a * b = omega (arith, suc_times a b) in omega arith
+
+times_kept : (a b g : ℕ) → min (a * min b g) g ≡ min (a * b) g
+times_kept zero b g = rw (zero-mul b, zero-mul (min b g)) refl
+times_kept (suc a) b g =
+    ⊎_elim
+    (λ h. let m : min b g ≡ b = omega (arith, h) in rw m refl)
+    (λ h. let m : min b g ≡ g = omega (arith, h) in rw m (at_most a b g h))
+    (cases_lt b g)
+
+pub kept-times : (a b : ℕ) → kept (a * kept b) ≡ kept (a * b)
+kept-times a b = times_kept a b (2 ^ 64 - 1)
+
+pub get-kept : (ns : List ℕ) (i : ℕ) → get_or (map kept ns) i 0 ≡ kept (get_or ns i 0)
+get-kept [] i = refl
+get-kept (n ∷ ns) zero = refl
+get-kept (n ∷ ns) (suc i) = get-kept ns i
+
+-- ---- shapes
+pub size_by-Scalar : (starred : Bool) (sizes : List ℕ) (num : Num) → size_by starred sizes (sh.Scalar num) ≡ 1
+unfolding size_by
+size_by-Scalar starred sizes num = refl
+
+pub size_by-Struct : (starred : Bool) (sizes : List ℕ) (k : ℕ) → size_by starred sizes (sh.Struct k) ≡ get_or sizes k 0
+unfolding size_by
+size_by-Struct starred sizes k = refl
+
+pub size_by-Array : (starred : Bool) (sizes : List ℕ) (element : Shape) (n : ℕ) → size_by starred sizes (sh.Array element n) ≡ times starred n * size_by starred sizes element
+unfolding size_by Rattle.sa_typed.specs.declared.shape.Shape.TheBlock.hidden-the_row-Shape-0 denote.Hole.Carrier.hidden
+size_by-Array starred sizes element n = refl
+
+pub ruleset size_rows = (size_by-Scalar, size_by-Struct, size_by-Array, kept-times, get-kept)
+pub ruleset sums = (kept-plus, kept-plus_right)
+
+-- ---- lists of shapes
+pub sum_by-next : (starred : Bool) (sizes : List ℕ) (fields : List FieldDef) (i : ℕ) (d : FieldDef) → i < length fields →
+    sum_by starred sizes (map field_shape (drop i fields)) ≡ size_by starred sizes (get_or fields i d).shape + sum_by starred sizes (map field_shape (drop (i + 1) fields))
+unfolding sum_by
+sum_by-next starred sizes fields i d h = ap (λ fs. sum_by starred sizes (map field_shape fs)) (drop_more fields i d h)
+
+pub sum_by-end : (starred : Bool) (sizes : List ℕ) (fields : List FieldDef) (i : ℕ) → length fields ≤ i → sum_by starred sizes (map field_shape (drop i fields)) ≡ 0
+unfolding sum_by
+sum_by-end starred sizes fields i h = ap (λ fs. sum_by starred sizes (map field_shape fs)) (drop_all i fields h)
+
+-- a total that stops, with one more count
+pub one_more : (total next size exact part rest whole : ℕ) → size ≡ kept exact → next ≡ min (total + size) (2 ^ 64 - 1) → part ≡ exact + rest → kept (total + part) ≡ whole → kept (next + rest) ≡ whole
+one_more total next size exact part rest whole s n p t = omega arith
+
+pub all_summed : (total part whole : ℕ) → total < 2 ^ 64 → part ≡ 0 → kept (total + part) ≡ whole → total ≡ whole
+all_summed total part whole f p t = omega arith
+
+-- ---- one structure more
+sizes_from-push : (starred : Bool) (sizes : List ℕ) (ds : List StructDef) (d : StructDef) →
+    sizes_from starred sizes (ds ++ d ∷ []) ≡ sizes_from starred sizes ds ++ sum_by starred (sizes_from starred sizes ds) (field_shapes d) ∷ []
+unfolding sizes_from
+sizes_from-push starred sizes [] d = refl
+sizes_from-push starred sizes (e ∷ ds) d = sizes_from-push starred (sizes ++ sum_by starred sizes (field_shapes e) ∷ []) ds d
+
+pub counted-push : (starred : Bool) (sizes more : List ℕ) (size : ℕ) (ds all : List StructDef) (d : StructDef) → AreCounted starred sizes ds → more ≡ sizes ++ size ∷ [] → all ≡ ds ++ d ∷ [] →
+    size ≡ kept (sum_by starred (sizes_of starred ds) (field_shapes d)) → AreCounted starred more all
+counted-push starred sizes more size ds all d counted m a s =
+    rw (m, a, sizes_from-push starred [] ds d, map-append kept (sizes_of starred ds) (sum_by starred (sizes_of starred ds) (field_shapes d) ∷ []), counted, s) refl
+
+pub counted-none : (starred : Bool) (sizes : List ℕ) (ds : List StructDef) → sizes ≡ [] → ds ≡ [] → AreCounted starred sizes ds
+unfolding sizes_from
+counted-none starred sizes ds s d = rw (s, d) refl
+
+pub at_ok : {T E P : Type 0} (r : Result T E) → is_err r ≡ false → OnOk r P → P
+at_ok (Ok x) h p = p
+at_ok (Err e) h p = absurd (true≢false h)

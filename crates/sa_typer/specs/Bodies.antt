@@ -1,0 +1,91 @@
+-- The block of main, with the clock loop directly in it.
+use Rattle.std.specs.Prelude.{ℕ, List, [], ◌∷◌, ◌++◌, ◌==◌, ◌&&◌, ◌||◌, Bool, true, false, not, if◌then◌else◌, Option, Some, None, option_map}
+use Rattle.sa_base.specs.declared.pos.Pos.{Pos}
+use Rattle.sa_syntax.specs.declared.expr.Expr as tree
+use Rattle.sa_syntax.specs.declared.expr.Expr.{out-Expr}
+use Rattle.sa_syntax.specs.declared.decl.Base.TheOpen.{Expr-F}
+use Rattle.sa_syntax.specs.declared.stmt.Block.{Block, out-Block}
+use Rattle.sa_syntax.specs.declared.stmt.BlockItem.{BlockItem, out-BlockItem}
+use Rattle.sa_syntax.specs.declared.stmt.BlockItem.TheOpen.{Stmt-F, BlockItem-F}
+use Rattle.sa_syntax.specs.declared.stmt.Directive.TheVariants as d
+use Rattle.sa_syntax.specs.declared.stmt.First.{First}
+use Rattle.sa_syntax.specs.declared.stmt.First.TheVariants as first
+use Rattle.sa_syntax.specs.declared.stmt.Simple.{Simple}
+use Rattle.sa_syntax.specs.declared.stmt.Stmt.{Stmt as Tree, out-Stmt}
+use Rattle.sa_typed.specs.declared.stmt.Stmt.{Stmt}
+use Rattle.sa_typed.specs.declared.stmt.Stmt.TheVariants as t
+use Rattle.sa_typer.specs.declared.bodies.Body.{Body}
+use Rattle.sa_typer.specs.First.{item_pos}
+use Rattle.sa_typer.specs.Statements.{item, scoped}
+use Rattle.sa_typer.specs.Typing.{Typing, ◌>>=◌, ◌>>◌, pure, refuse}
+
+-- the items of a block, one after the other
+unfoldable pub items : List BlockItem → List Stmt → Typing (List Stmt)
+items [] found = pure found
+items (i ∷ is) found = item i found >>= items is
+
+-- a block by itself
+unfoldable pub block : List BlockItem → Typing (List Stmt)
+block is = scoped (items is [])
+
+-- ---- the clock loop: `while (1)` or `for (;;)` with a block that ends with a wait
+abbrev pub is_wait_stmt : Tree → Bool
+is_wait_stmt a = elim (out-Stmt a) as (λ _. Bool) [ Stmt-F.Directive p d.Wait ↦ true | _ ↦ false ]
+
+abbrev pub is_wait : BlockItem → Bool
+is_wait i = elim (out-BlockItem i) as (λ _. Bool) [ BlockItem-F.Local l ↦ false | BlockItem-F.Stmt a ↦ is_wait_stmt a ]
+
+-- what stands before the wait that a block ends with
+unfoldable pub before_wait : List BlockItem → Option (List BlockItem)
+before_wait [] = None
+before_wait (i ∷ []) = if is_wait i then Some [] else None
+before_wait (i ∷ j ∷ is) = option_map (λ before. i ∷ before) (before_wait (j ∷ is))
+
+-- what stands in a block; a body without braces is none
+abbrev pub in_block : Tree → List BlockItem
+in_block a = elim (out-Stmt a) as (λ _. List BlockItem) [ Stmt-F.Block b ↦ (out-Block b).items | _ ↦ [] ]
+
+-- the token `1`
+abbrev pub is_one : tree.Expr → Bool
+is_one e = elim (out-Expr e) as (λ _. Bool) [ Expr-F.Number v unsigned longs decimal p ↦ v == 1 && not unsigned && longs == 0 && decimal | _ ↦ false ]
+
+-- a clock loop: the place of its word, and what stands before its wait
+pub record ClockLoop : Type 0 where
+  pub place : Pos
+  pub before : List BlockItem
+
+abbrev pub loop_at : Pos → Option (List BlockItem) → Option ClockLoop
+loop_at p None = None
+loop_at p (Some before) = Some (record { place = p; before = before })
+
+abbrev pub for_ever : Pos → First → Option tree.Expr → Option Simple → Tree → Option ClockLoop
+for_ever p first.Nothing None None b = loop_at p (before_wait (in_block b))
+for_ever p _ _ _ b = None
+
+unfoldable pub loop_in : Tree → Option ClockLoop
+loop_in a = elim (out-Stmt a) as (λ _. Option ClockLoop) [
+  | Stmt-F.While p e b ↦ if is_one e then loop_at p (before_wait (in_block b)) else None
+  | Stmt-F.For p i e n b ↦ for_ever p i e n b
+  | _ ↦ None
+]
+
+abbrev pub clock_loop : BlockItem → Option ClockLoop
+clock_loop i = elim (out-BlockItem i) as (λ _. Option ClockLoop) [ BlockItem-F.Local l ↦ None | BlockItem-F.Stmt a ↦ loop_in a ]
+
+-- ---- main's block: the first clock loop directly in it is the one, and nothing follows it
+abbrev pub no_body : Body
+no_body = record { stmts = []; clock = false }
+
+abbrev pub main_by : Option ClockLoop → BlockItem → List Stmt → Typing Body
+main_by (Some l) i found = block l.before >>= (λ ss. pure (record { stmts = found ++ t.Clock l.place ss ∷ []; clock = true }))
+main_by None i found = item i found >>= (λ ss. pure (record { stmts = ss; clock = false }))
+
+unfoldable pub main_item : BlockItem → Body → Typing Body
+main_item i b = if b.clock then (refuse 23 (item_pos i) >> pure b) else main_by (clock_loop i) i b.stmts
+
+unfoldable pub main_items : List BlockItem → Body → Typing Body
+main_items [] b = pure b
+main_items (i ∷ is) b = main_item i b >>= main_items is
+
+unfoldable pub main_block : List BlockItem → Typing Body
+main_block is = scoped (main_items is no_body)

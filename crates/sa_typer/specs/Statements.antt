@@ -1,0 +1,153 @@
+-- Assignments, statements, and the block of main.
+use Rattle.std.specs.Prelude.{ℕ, List, [], ◌∷◌, ◌++◌, ◌==◌, ◌&&◌, ◌||◌, Bool, true, false, not, if◌then◌else◌, Option, Some, None, option_map}
+use Rattle.sa_base.specs.declared.num.Num.{Num}
+use Rattle.sa_base.specs.declared.num.Num.TheVariants.{I32}
+use Rattle.sa_base.specs.declared.pos.Pos.{Pos}
+use Rattle.sa_syntax.specs.declared.expr.Expr as tree
+use Rattle.sa_syntax.specs.declared.expr.Expr.{Number, Place', Bracket', Prefix', Cast', Chain', Choice', out-Expr}
+use Rattle.sa_syntax.specs.declared.expr.Place.{Place}
+use Rattle.sa_syntax.specs.declared.stmt.Block.{Block, out-Block}
+use Rattle.sa_syntax.specs.declared.stmt.BlockItem as blocks
+use Rattle.sa_syntax.specs.declared.stmt.Compound.{Compound}
+use Rattle.sa_syntax.specs.declared.stmt.Compound.TheVariants as c
+use Rattle.sa_syntax.specs.declared.stmt.Simple as from
+use Rattle.sa_syntax.specs.declared.stmt.Simple.TheVariants as x
+use Rattle.sa_syntax.specs.declared.stmt.Stmt as stmts
+use Rattle.sa_syntax.specs.declared.stmt.Stmt.{Row_of-BlockItem, end_of-BlockItem, more_of-BlockItem}
+use Rattle.sa_syntax.specs.declared.stmt.Turn.{Turn}
+use Rattle.sa_syntax.specs.declared.stmt.Turn.TheVariants as turn
+use Rattle.sa_syntax.specs.declared.stmt.Directive.{Directive}
+use Rattle.sa_syntax.specs.declared.stmt.Directive.TheVariants as d
+use Rattle.sa_syntax.specs.declared.stmt.First.{First}
+use Rattle.sa_syntax.specs.declared.stmt.First.TheVariants as first
+use Rattle.sa_typed.specs.declared.expr.Access.{Access}
+use Rattle.sa_typed.specs.declared.expr.Expr.{Expr}
+use Rattle.sa_typed.specs.declared.expr.Expr.TheVariants as e
+use Rattle.sa_typed.specs.declared.expr.Operator.{Operator}
+use Rattle.sa_typed.specs.declared.expr.Operator.TheVariants as op
+use Rattle.sa_typed.specs.declared.shape.Shape.{Shape, out-Shape}
+use Rattle.sa_typed.specs.declared.shape.Shape.TheOpen.{Shape-F}
+use Rattle.sa_typed.specs.declared.stmt.Simple.{Simple}
+use Rattle.sa_typed.specs.declared.stmt.Simple.TheVariants as simply
+use Rattle.sa_typed.specs.declared.stmt.Stmt.{Stmt}
+use Rattle.sa_typed.specs.declared.stmt.Stmt.TheVariants as t
+use Rattle.sa_typer.specs.declared.bodies.Body.{Body}
+use Rattle.sa_typer.specs.declared.constant.Value.TheVariants.{Varies}
+use Rattle.sa_typer.specs.declared.operand.Operand.{Operand}
+use Rattle.sa_typer.specs.declared.operand.Operand.TheVariants as a
+use Rattle.sa_typer.specs.declared.operand.Spot.{Spot}
+use Rattle.sa_typer.specs.First.{place_pos, item_pos}
+use Rattle.sa_typer.specs.Constants.{working}
+use Rattle.sa_typer.specs.Operands.{stand_in, sort_of, is_object}
+use Rattle.sa_typer.specs.Places.{access, operand}
+use Rattle.sa_typer.specs.Expressions.{expr}
+use Rattle.sa_typer.specs.Lists.{spot}
+use Rattle.sa_typer.specs.Declarations.{local}
+use Rattle.sa_typer.specs.Scopes.{oldest, count}
+use Rattle.sa_typer.specs.Typing.{Typing, Gives, and_then, ◌>>=◌, ◌>>◌, pure, refuse, refuse_if}
+
+-- ---- assignments (ISO C 6.5.16)
+abbrev pub some_assignment : Spot → Pos → Simple
+some_assignment l p = simply.Assign (access l) I32 p stand_in
+
+abbrev pub mismatched : Spot → Pos → Typing Simple
+mismatched l p = refuse 5 p >> pure (some_assignment l p)
+
+-- a number is assigned to, and what to it
+abbrev pub to_number : Spot → Num → Pos → Operand → Typing Simple
+to_number l num p (a.Number x from v) = pure (simply.Assign (access l) num p x)
+to_number l num p (a.Struct x k fixed q) = mismatched l p
+to_number l num p (a.Array q) = mismatched l p
+to_number l num p a.Unknown = pure (some_assignment l p)
+
+-- a whole structure is copied to one of the same number, where no index on either side varies
+abbrev pub to_struct : Spot → ℕ → Pos → Operand → Typing Simple
+to_struct l k p (a.Number x from v) = mismatched l p
+to_struct l k p (a.Struct x j fixed q) = refuse_if (not (k == j && l.fixed && fixed)) 7 p >> pure (simply.Copy k (access l) p x)
+to_struct l k p (a.Array q) = mismatched l p
+to_struct l k p a.Unknown = pure (some_assignment l p)
+
+abbrev pub to_array : Spot → Pos → Operand → Typing Simple
+to_array l p a.Unknown = pure (some_assignment l p)
+to_array l p x = mismatched l p
+
+abbrev pub to_shape : Spot → Shape → Pos → Operand → Typing Simple
+to_shape l shape p x = elim (out-Shape shape) as (λ _. Typing Simple) [
+  | Shape-F.Scalar num ↦ to_number l num p x
+  | Shape-F.Struct k ↦ to_struct l k p x
+  | Shape-F.Array inner count ↦ to_array l p x
+]
+
+abbrev pub to_option : Spot → Option Shape → Pos → Operand → Typing Simple
+to_option l None p x = pure (some_assignment l p)
+to_option l (Some shape) p x = to_shape l shape p x
+
+unfoldable pub assigned : Spot → Pos → Operand → Typing Simple
+assigned l p x = to_option l l.shape p x
+
+-- a constant or an input is no left side; the place is that of the left side's first token
+abbrev pub left_side : Pos → Spot → Typing (Unit {0})
+left_side p l = refuse_if l.locked 6 p
+
+-- ---- compound assignments, `++` and `--`
+abbrev pub compound_of : Compound → Operator
+compound_of c.Plus = op.Plus
+compound_of c.Minus = op.Minus
+compound_of c.Times = op.Times
+compound_of c.Divide = op.Divide
+compound_of c.Remainder = op.Remainder
+compound_of c.ShiftLeft = op.ShiftLeft
+compound_of c.ShiftRight = op.ShiftRight
+compound_of c.BitAnd = op.BitAnd
+compound_of c.BitXor = op.BitXor
+compound_of c.BitOr = op.BitOr
+
+abbrev pub turn_of : Turn → Operator
+turn_of turn.Up = op.Plus
+turn_of turn.Down = op.Minus
+
+abbrev pub one : Operand
+one = a.Number (e.Number 1 I32) I32 Varies
+
+-- the left side's operand is given besides, and no number on one of the sides is refused
+abbrev pub compounded_by : Spot → Operator → Pos → Operand → Operand → Typing Simple
+compounded_by l o p (a.Number y to w) (a.Number x from v) = pure (simply.Compound (access l) to o p (working o to from) x)
+compounded_by l o p y x = refuse_if (is_object (sort_of y) || is_object (sort_of x)) 5 p >> pure (some_assignment l p)
+
+unfoldable pub compounded : Spot → Operator → Pos → Operand → Typing Simple
+compounded l o p x = compounded_by l o p (operand l) x
+
+unfoldable pub simple : from.Simple → Typing Simple
+simple (x.Assign y p i) = spot y >>= (λ l. left_side (place_pos y) l >> (expr i >>= (λ i. assigned l p i)))
+simple (x.Compound y o p i) = spot y >>= (λ l. left_side (place_pos y) l >> (expr i >>= (λ i. compounded l (compound_of o) p i)))
+simple (x.After y o p) = spot y >>= (λ l. left_side (place_pos y) l >> compounded l (turn_of o) p one)
+simple (x.Before o p y) = spot y >>= (λ l. left_side (place_pos y) l >> compounded l (turn_of o) p one)
+
+-- ---- statements
+-- what is declared in a block is visible to its end
+abbrev pub left_scope : {A : Type 0} → ℕ → ℕ → A → Typing A
+left_scope names tags x = λ s. Gives x (record s { names = oldest names s.names; tags = oldest tags s.tags })
+
+unfoldable pub scoped : {A : Type 0} → Typing A → Typing A
+scoped m = λ s. (m >>= left_scope (count s.names) (count s.tags)) s
+
+-- a wait that doesn't end the clock loop; other directives aren't built yet
+abbrev pub directive : Pos → Directive → List Stmt → Typing (List Stmt)
+directive p d.Wait found = refuse 23 p >> pure found
+directive p _ found = pure found
+
+unfoldable mutual
+  -- a statement, after the ones so far; what isn't built yet is nothing
+  pub stmt : stmts.Stmt → List Stmt → Typing (List Stmt)
+  stmt (stmts.Block' p n row q) found = scoped (items row []) >>= (λ ss. pure (found ++ t.Block ss ∷ []))
+  stmt (stmts.Simple y) found = simple y >>= (λ y. pure (found ++ t.Simple y ∷ []))
+  stmt (stmts.Directive p y) found = directive p y found
+  stmt _ found = pure found
+
+  pub items : {n : _} → Row_of-BlockItem n → List Stmt → Typing (List Stmt)
+  items end_of-BlockItem found = pure found
+  items (more_of-BlockItem i rest) found = item i found >>= items rest
+
+  pub item : blocks.BlockItem → List Stmt → Typing (List Stmt)
+  item (blocks.Local l) found = local l found
+  item (blocks.Stmt a) found = stmt a found

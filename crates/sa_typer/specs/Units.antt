@@ -1,0 +1,149 @@
+-- Sources: what a tree is typed as, or how it is refused.
+use Rattle.std.specs.Prelude.{ℕ, ◌+◌, List, [], ◌∷◌, ◌++◌, ◌&&◌, Bool, true, false, if◌then◌else◌, map, nat_le, Option, Some, None, codes}
+use Rattle.std.specs.Str.{bytes_eq}
+use Rattle.sa_base.specs.Numbers.{limit_number}
+use Rattle.sa_base.specs.declared.limit.Limit.TheVariants.{Cells}
+use Rattle.sa_base.specs.declared.num.Num.{Num}
+use Rattle.sa_base.specs.declared.num.Num.TheVariants.{I8, U8, I16, U16, I32, U32, I64, U64}
+use Rattle.sa_base.specs.declared.pos.Pos.{Pos}
+use Rattle.sa_base.specs.declared.refusal.Code.TheVariants as code
+use Rattle.sa_base.specs.declared.refusal.Refusal.{Refusal}
+use Rattle.sa_syntax.specs.declared.decl.Name.{Name}
+use Rattle.sa_syntax.specs.declared.decl.Specifiers.{Specifiers, out-Specifiers}
+use Rattle.sa_syntax.specs.declared.stmt.Block.{Block, out-Block}
+use Rattle.sa_syntax.specs.declared.unit.Item.{Item}
+use Rattle.sa_syntax.specs.declared.unit.Item.TheVariants as top
+use Rattle.sa_syntax.specs.declared.unit.Unit.{Unit as Source}
+use Rattle.sa_typed.specs.declared.program.Func.{Func}
+use Rattle.sa_typed.specs.declared.program.Program.{Program}
+use Rattle.sa_typed.specs.declared.program.Var.{Var}
+use Rattle.sa_typed.specs.declared.shape.Shape.{Shape}
+use Rattle.sa_typer.specs.declared.bodies.Body.{Body}
+use Rattle.sa_typer.specs.declared.bodies.Entry.{Entry}
+use Rattle.sa_typer.specs.declared.typer.Fault.{Fault}
+use Rattle.sa_typer.specs.declared.typer.Typer.{Typer}
+use Rattle.sa_typer.specs.declared.types.Element.{Element}
+use Rattle.sa_typer.specs.declared.types.Element.TheVariants as el
+use Rattle.sa_typer.specs.declared.types.Named.TheVariants as n
+use Rattle.sa_typer.specs.declared.types.Ty.{Ty}
+use Rattle.sa_typer.specs.Scopes.{nothing, is_visible}
+use Rattle.sa_typer.specs.Structures.{cells_in}
+use Rattle.sa_typer.specs.Types.{qualifiers}
+use Rattle.sa_typer.specs.Expressions.{structure}
+use Rattle.sa_typer.specs.Lists.{type_of}
+use Rattle.sa_typer.specs.Declarations.{named, declared, is_struct}
+use Rattle.sa_typer.specs.Bodies.{main_block}
+use Rattle.sa_typer.specs.Typing.{Typed, Typing, Gives, ◌>>=◌, ◌>>◌, pure, refuse_if, refused, fault, lesser}
+
+-- ---- items
+-- a type before a name at file scope, where `volatile` is out of place
+abbrev pub plain_type : Specifiers → Typing Ty
+plain_type ty = qualifiers false true (out-Specifiers ty).qualifiers >> type_of ty
+
+unfoldable pub type_name : Specifiers → Name → Typing (Unit {0})
+type_name ty x = plain_type ty >>= (λ t. named x (n.Alias t))
+
+abbrev pub is_main : Name → Bool
+is_main x = bytes_eq x.text (codes "main")
+
+abbrev pub entry : Name → Ty → Body → Entry
+entry x ty b = record { name = x.text; result = ty.element; body = b }
+
+-- main, whose name wasn't visible; a structure isn't given by value
+abbrev pub first_main : Name → Ty → Block → Typing (Option Entry)
+first_main x ty b = named x n.Function >> (refuse_if (is_struct ty.element) 5 x.pos >> (main_block (out-Block b).items >>= (λ body. pure (Some (entry x ty body)))))
+
+-- main, after what was main before it
+unfoldable pub main : Specifiers → Name → Block → Option Entry → Typing (Option Entry)
+main ty x b found = plain_type ty >>= (λ t s. if is_visible s.names x.text then Gives found (refused 2 x.pos s) else first_main x t b s)
+
+-- an item, after what was main before it; prototypes and other functions aren't built yet
+unfoldable pub item : Item → Option Entry → Typing (Option Entry)
+item (top.Typedef p ty x) found = type_name ty x >> pure found
+item (top.Struct p x) found = structure x >> pure found
+item (top.Global ty ds) found = declared ty ds >> pure found
+item (top.Proto ty x ps) found = pure found
+item (top.Func ty x ps b) found = if is_main x then main ty x b found else pure found
+
+unfoldable pub items : List Item → Option Entry → Typing (Option Entry)
+items [] found = pure found
+items (i ∷ is) found = item i found >>= items is
+
+-- ---- the whole
+abbrev pub blank : Typer
+blank = record {
+  names = nothing;
+  tags = nothing;
+  structs = record { defs = []; members = [] };
+  vars = [];
+  inputs = [];
+  thresholds = [];
+  least = None;
+}
+
+pub data Answer : Type 0 where
+  Accepts : Program → Answer
+  Refuses : Refusal → Answer
+  -- there are more cells than the analysis may have
+  TooManyCells : Answer
+
+abbrev pub refusal : Fault → Refusal
+refusal f = record { code = code.Typing f.rule; pos = f.pos }
+
+abbrev pub is_result : Num → Bool
+is_result I32 = true
+is_result _ = false
+
+-- what main gives: void, an int, or what is refused elsewhere
+abbrev pub is_entry_type : Element → Bool
+is_entry_type (el.Scalar num) = is_result num
+is_entry_type _ = true
+
+abbrev pub is_entry : Entry → Bool
+is_entry e = e.body.clock && is_entry_type e.result
+
+abbrev pub result_of : Element → Option Num
+result_of (el.Scalar num) = Some num
+result_of _ = None
+
+abbrev pub result_cells : Option Num → ℕ
+result_cells None = 0
+result_cells (Some num) = 1
+
+abbrev pub function : Entry → Func
+function e = record { name = e.name; params = []; result = result_of e.result; body = e.body.stmts }
+
+abbrev pub program : Typer → Entry → Program
+program s e = record {
+  structs = s.structs.defs;
+  vars = s.vars;
+  inputs = s.inputs;
+  funcs = function e ∷ [];
+  entry = 0;
+  thresholds = s.thresholds;
+}
+
+abbrev pub var_shape : Var → Shape
+var_shape v = v.shape
+
+unfoldable pub cells : Typer → Entry → ℕ
+cells s e = cells_in s.structs (map var_shape s.vars) + result_cells (result_of e.result)
+
+abbrev pub accepted : Typer → Entry → Answer
+accepted s e = if nat_le (cells s e) (limit_number Cells) then Accepts (program s e) else TooManyCells
+
+abbrev pub unless_refused : Option Fault → Typer → Entry → Answer
+unless_refused (Some f) s e = Refuses (refusal f)
+unless_refused None s e = accepted s e
+
+-- the text ends there; no main with a clock loop, or with another result, is refused there, after all other refusals
+abbrev pub answer_by : Pos → Option Entry → Typer → Answer
+answer_by end None s = Refuses (refusal (lesser s.least (fault 22 end)))
+answer_by end (Some e) s = if is_entry e then unless_refused s.least s e else Refuses (refusal (lesser s.least (fault 22 end)))
+
+abbrev pub answered : Pos → Typed (Option Entry) → Answer
+answered end (Gives e s) = answer_by end e s
+
+-- the answer to a tree whose text ends there
+unfoldable pub answer : Source → Pos → Answer
+answer u end = answered end (items u.items None blank)
