@@ -4,7 +4,7 @@
 #![tactic(auto)]
 
 mod alarms;
-mod report;
+mod text;
 
 pub use alarms::rising;
-pub use report::report;
+pub use text::report;

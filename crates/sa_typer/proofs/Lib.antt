@@ -5,3 +5,4 @@ pub mod ShapeLemmas
 pub mod ConstantLemmas
 pub mod OperandRows
 pub mod SizeLemmas
+pub mod UnbuiltLemmas

@@ -15,3 +15,5 @@ pub mod Declarations
 pub mod Statements
 pub mod Bodies
 pub mod Units
+pub mod Answers
+pub mod Unbuilt

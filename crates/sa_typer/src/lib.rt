@@ -14,3 +14,8 @@ mod scope;
 mod structs;
 mod typer;
 mod types;
+mod unbuilt;
+mod unit;
+
+pub use unbuilt::first_unbuilt;
+pub use unit::{TypeFault, type_unit};
