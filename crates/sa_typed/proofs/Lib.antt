@@ -1,2 +1,3 @@
 pub mod ArithmeticLaws
+mod EvaluationSamples
 mod Sample
