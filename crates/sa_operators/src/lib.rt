@@ -7,3 +7,7 @@
 
 mod operators;
 
+pub use operators::{
+    converted_span, note_conversion, note_operator, note_prefix, operator_span, prefix_span,
+    range_of,
+};

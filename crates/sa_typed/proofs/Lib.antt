@@ -1,3 +1,4 @@
 pub mod ArithmeticLaws
 mod EvaluationSamples
+pub mod LinkLaws
 mod Sample

@@ -6,3 +6,4 @@ pub mod Cells
 pub mod Lines
 pub mod Constants
 pub mod WellTyped
+pub mod Links

@@ -7,6 +7,7 @@
 #![tactic(auto)]
 
 mod arithmetic;
+mod constants;
 mod expr;
 mod program;
 mod shape;
@@ -15,6 +16,7 @@ mod stmt;
 pub use arithmetic::{
     as_num, bits, common, converted, is_of, is_signed, literal_type, promoted, wrapped,
 };
+pub use constants::{fixed_index, is_constant};
 pub use expr::{Access, Expr, Link, Operator, Prefix, Step};
 pub use program::{Func, Home, Input, Param, Place, Program, Var};
 pub use shape::{FieldDef, Part, Shape, StructDef};

@@ -1,0 +1,131 @@
+//! Constant expressions: literals with operators and casts between them (ISO C 6.6).
+
+ghost use Rattle.std.specs.Prelude.{◌≡◌, Ok, IfOk};
+ghost use Rattle.sa_typed.specs.Arithmetic.{IsOperand, IsRight, operate, prefixed, converted};
+ghost use Rattle.sa_typed.specs.Constants.{is_constant, constant_value, then_ok, element_of, fixed_index};
+ghost use Rattle.sa_typed.specs.Links.{HasType, AreAfter, all_constant, value_after};
+
+use crate::arithmetic::converted;
+use crate::expr::{Expr, Link, Operator, Prefix};
+use sa_base::{Kind, Num};
+
+#[cycle(constants)]
+#[tactic(auto, using(crate::proofs::LinkLaws::of_constants))]
+/// Whether it is made of literals, operators and casts alone.
+pub fn is_constant(e: &Expr) -> bool
+    ensures { result ≡ is_constant e.now }
+{
+    match e {
+        Expr::Number(_, _) => true,
+        Expr::Read(_, _) | Expr::Input(_, _) => false,
+        Expr::Prefix(_, _, _, operand) => is_constant(operand.get()),
+        Expr::Cast(_, _, operand) => is_constant(operand.get()),
+        Expr::Chain(first, links) => is_constant(first.get()) && all_constant(links.as_slice()),
+    }
+}
+
+#[cycle(constants)]
+#[tactic(auto, using(crate::proofs::LinkLaws::of_all_constant))]
+fn all_constant(links: &[Link]) -> bool
+    ensures { result ≡ all_constant links.now }
+{
+    for link in links {
+        if !is_constant(&link.operand) {
+            return false;
+        }
+    }
+    true
+}
+
+/// What an operator before its operand makes of a number, or the operand's error.
+fn prefixed(op: Prefix, num: Num, operand: Result<i128, Kind>) -> Result<i128, Kind>
+    requires { IfOk operand (λ x. IsOperand num x) }
+    ensures { result ≡ then_ok operand (prefixed op num) }
+{
+    match operand {
+        Ok(x) => op.operate(num, x),
+        Err(kind) => Err(kind),
+    }
+}
+
+/// What a cast makes of a number, or the operand's error.
+fn cast(num: Num, operand: Result<i128, Kind>) -> Result<i128, Kind>
+    ensures { result ≡ then_ok operand (converted num) }
+{
+    match operand {
+        Ok(x) => converted(num, x),
+        Err(kind) => Err(kind),
+    }
+}
+
+/// What an operator makes of two numbers, or the first error of its operands.
+fn operated(
+    op: Operator,
+    num: Num,
+    left: Result<i128, Kind>,
+    right: Result<i128, Kind>,
+) -> Result<i128, Kind>
+    requires left { IfOk left (λ x. IsOperand num x) }
+    requires right { IfOk right (λ y. IsRight op num y) }
+    ensures { result ≡ then_ok left (λ x. then_ok right (operate op num x)) }
+{
+    match (left, right) {
+        (Ok(x), Ok(y)) => op.operate(num, x, y),
+        (Ok(_), Err(kind)) => Err(kind),
+        (Err(kind), _) => Err(kind),
+    }
+}
+
+#[cycle(values)]
+#[tactic(auto, using(crate::proofs::LinkLaws::of_values))]
+/// The value of a constant expression. Of a part that isn't constant it is 0.
+fn constant_value(e: &Expr) -> Result<i128, Kind>
+    requires { HasType e.now }
+    ensures { result ≡ constant_value e.now }
+{
+    match e {
+        Expr::Number(n, _) => Ok(i128::from(*n)),
+        Expr::Read(_, _) | Expr::Input(_, _) => Ok(0),
+        Expr::Prefix(op, _, num, operand) => prefixed(*op, *num, constant_value(operand.get())),
+        Expr::Cast(_, num, operand) => cast(*num, constant_value(operand.get())),
+        Expr::Chain(first, links) => value_after(links.as_slice(), constant_value(first.get())),
+    }
+}
+
+#[cycle(values)]
+#[tactic(auto, using(crate::proofs::LinkLaws::of_values_after))]
+/// What operators make of a value, from left to right.
+fn value_after(links: &[Link], first: Result<i128, Kind>) -> Result<i128, Kind>
+    requires { AreAfter first links.now }
+    ensures { result ≡ value_after links.now first }
+{
+    let mut value = first;
+    for link in links {
+        value = operated(link.op, link.num, value, constant_value(&link.operand));
+    }
+    value
+}
+
+/// The element of an array of `n` with this number, None where there is none.
+fn element(n: u32, i: i128) -> Option<u32>
+    ensures { result ≡ element_of n (Ok i) }
+{
+    if 0 <= i && i < i128::from(n) {
+        Some(i as u32)
+    } else {
+        None
+    }
+}
+
+#[tactic(auto, unfolding(crate::specs::Constants::fixed_index))]
+/// The element of an array of `n` that a constant index names, None where it errs or names none. An index that isn't
+/// constant may be anything.
+pub fn fixed_index(n: u32, e: &Expr) -> Option<u32>
+    requires { HasType e.now }
+    ensures { result ≡ fixed_index n e.now }
+{
+    match constant_value(e) {
+        Ok(i) => element(n, i),
+        Err(_) => None,
+    }
+}
