@@ -5,4 +5,12 @@ pub mod ShapeLemmas
 pub mod ConstantLemmas
 pub mod OperandRows
 pub mod SizeLemmas
+pub mod ExprRows
+pub mod SlotLemmas
+pub mod TrimLemmas
+pub mod InitRows
+pub mod StmtRows
+pub mod BodyLemmas
+pub mod UnitLemmas
 pub mod UnbuiltLemmas
+pub mod AnswerLemmas

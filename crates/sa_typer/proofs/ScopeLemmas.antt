@@ -107,10 +107,10 @@ finds-pushed m n name text words pushed k p fresh t len finds new w i e =
     let e : index_from 0 w (words ++ name ∷ []) ≡ Some i = rw t at (rw p at e) in
     ⊎_elim
     (λ y. let same : name ≡ w = (bytes_decides name w).0 y in
-          let none : index_from 0 w words ≡ None = rw (← same) (none_of _ fresh) in
-          let here : i ≡ 0 + length words = last_here 0 i w name words none e in
-          let k_is : k ≡ i = omega (arith, len, here) in
-          new w ∙ cond-true (bytes_eq name w) (Some k) (place_in m w) y ∙ ap Some k_is)
+    let none : index_from 0 w words ≡ None = rw (← same) (none_of _ fresh) in
+    let here : i ≡ 0 + length words = last_here 0 i w name words none e in
+    let k_is : k ≡ i = omega (arith, len, here) in
+    new w ∙ cond-true (bytes_eq name w) (Some k) (place_in m w) y ∙ ap Some k_is)
     (λ d. new w ∙ cond-false (bytes_eq name w) (Some k) (place_in m w) d ∙ finds w i (last_from 0 i w name words e d))
     (cases_Bool (bytes_eq name w))
 

@@ -6,11 +6,12 @@ use Rattle.std.proofs.lemmas.Bool.{cases_lt, true≢false}
 use Rattle.std.specs.Prelude.{Result, Ok, Err, OnOk}
 use Rattle.std.specs.Result.{is_err}
 use Rattle.sa_base.specs.declared.num.Num.{Num}
+use Rattle.sa_typed.specs.declared.program.Var.{Var}
 use Rattle.sa_typed.specs.declared.shape.FieldDef.{FieldDef}
 use Rattle.sa_typed.specs.declared.shape.Shape.{Shape}
 use Rattle.sa_typed.specs.declared.shape.Shape.TheVariants as sh
 use Rattle.sa_typed.specs.declared.shape.StructDef.{StructDef}
-use Rattle.sa_typer.specs.Structures.{times, size_by, sum_by, field_shape, field_shapes, sizes_from, sizes_of, kept, AreCounted}
+use Rattle.sa_typer.specs.Structures.{times, size_by, sum_by, field_shape, field_shapes, var_shape, sizes_from, sizes_of, kept, AreCounted}
 
 -- ---- the greatest count
 pub kept-plus : (a b : ℕ) → kept (kept a + b) ≡ kept (a + b)
@@ -56,6 +57,7 @@ unfolding size_by Rattle.sa_typed.specs.declared.shape.Shape.TheBlock.hidden-the
 size_by-Array starred sizes element n = refl
 
 pub ruleset size_rows = (size_by-Scalar, size_by-Struct, size_by-Array, kept-times, get-kept)
+
 pub ruleset sums = (kept-plus, kept-plus_right)
 
 -- ---- lists of shapes
@@ -94,3 +96,12 @@ counted-none starred sizes ds s d = rw (s, d) refl
 pub at_ok : {T E P : Type 0} (r : Result T E) → is_err r ≡ false → OnOk r P → P
 at_ok (Ok x) h p = p
 at_ok (Err e) h p = absurd (true≢false h)
+
+pub vars-next : (sizes : List ℕ) (vars : List Var) (i : ℕ) (d : Var) → i < length vars →
+    sum_by true sizes (map var_shape (drop i vars)) ≡ size_by true sizes (get_or vars i d).shape + sum_by true sizes (map var_shape (drop (i + 1) vars))
+unfolding sum_by
+vars-next sizes vars i d h = ap (λ vs. sum_by true sizes (map var_shape vs)) (drop_more vars i d h)
+
+pub vars-end : (sizes : List ℕ) (vars : List Var) (i : ℕ) → length vars ≤ i → sum_by true sizes (map var_shape (drop i vars)) ≡ 0
+unfolding sum_by
+vars-end sizes vars i h = ap (λ vs. sum_by true sizes (map var_shape vs)) (drop_all i vars h)

@@ -17,12 +17,11 @@ use Rattle.sa_typed.specs.declared.stmt.Stmt.TheVariants as t
 use Rattle.sa_typer.specs.declared.bodies.Body.{Body}
 use Rattle.sa_typer.specs.First.{item_pos}
 use Rattle.sa_typer.specs.Statements.{item, scoped}
-use Rattle.sa_typer.specs.Typing.{Typing, ◌>>=◌, ◌>>◌, pure, refuse}
+use Rattle.sa_typer.specs.Typing.{Typing, ◌>>=◌, ◌>>◌, pure, refuse, each}
 
 -- the items of a block, one after the other
-unfoldable pub items : List BlockItem → List Stmt → Typing (List Stmt)
-items [] found = pure found
-items (i ∷ is) found = item i found >>= items is
+abbrev pub items : List BlockItem → List Stmt → Typing (List Stmt)
+items is = each item is
 
 -- a block by itself
 unfoldable pub block : List BlockItem → Typing (List Stmt)
@@ -49,43 +48,35 @@ in_block a = elim (out-Stmt a) as (λ _. List BlockItem) [ Stmt-F.Block b ↦ (o
 abbrev pub is_one : tree.Expr → Bool
 is_one e = elim (out-Expr e) as (λ _. Bool) [ Expr-F.Number v unsigned longs decimal p ↦ v == 1 && not unsigned && longs == 0 && decimal | _ ↦ false ]
 
--- a clock loop: the place of its word, and what stands before its wait
-pub record ClockLoop : Type 0 where
-  pub place : Pos
-  pub before : List BlockItem
+abbrev pub for_ever : First → Option tree.Expr → Option Simple → Tree → Option (List BlockItem)
+for_ever first.Nothing None None b = before_wait (in_block b)
+for_ever _ _ _ b = None
 
-abbrev pub loop_at : Pos → Option (List BlockItem) → Option ClockLoop
-loop_at p None = None
-loop_at p (Some before) = Some (record { place = p; before = before })
-
-abbrev pub for_ever : Pos → First → Option tree.Expr → Option Simple → Tree → Option ClockLoop
-for_ever p first.Nothing None None b = loop_at p (before_wait (in_block b))
-for_ever p _ _ _ b = None
-
-unfoldable pub loop_in : Tree → Option ClockLoop
-loop_in a = elim (out-Stmt a) as (λ _. Option ClockLoop) [
-  | Stmt-F.While p e b ↦ if is_one e then loop_at p (before_wait (in_block b)) else None
-  | Stmt-F.For p i e n b ↦ for_ever p i e n b
+-- what stands before the wait of a clock loop
+unfoldable pub loop_in : Tree → Option (List BlockItem)
+loop_in a = elim (out-Stmt a) as (λ _. Option (List BlockItem)) [
+  | Stmt-F.While p e b ↦ if is_one e then before_wait (in_block b) else None
+  | Stmt-F.For p i e n b ↦ for_ever i e n b
   | _ ↦ None
 ]
 
-abbrev pub clock_loop : BlockItem → Option ClockLoop
-clock_loop i = elim (out-BlockItem i) as (λ _. Option ClockLoop) [ BlockItem-F.Local l ↦ None | BlockItem-F.Stmt a ↦ loop_in a ]
+unfoldable pub clock_loop : BlockItem → Option (List BlockItem)
+clock_loop i = elim (out-BlockItem i) as (λ _. Option (List BlockItem)) [ BlockItem-F.Local l ↦ None | BlockItem-F.Stmt a ↦ loop_in a ]
 
 -- ---- main's block: the first clock loop directly in it is the one, and nothing follows it
 abbrev pub no_body : Body
 no_body = record { stmts = []; clock = false }
 
-abbrev pub main_by : Option ClockLoop → BlockItem → List Stmt → Typing Body
-main_by (Some l) i found = block l.before >>= (λ ss. pure (record { stmts = found ++ t.Clock l.place ss ∷ []; clock = true }))
+-- an item, given what stands before the wait where it is the clock loop; its first token is the loop's word
+abbrev pub main_by : Option (List BlockItem) → BlockItem → List Stmt → Typing Body
+main_by (Some before) i found = block before >>= (λ ss. pure (record { stmts = found ++ t.Clock (item_pos i) ss ∷ []; clock = true }))
 main_by None i found = item i found >>= (λ ss. pure (record { stmts = ss; clock = false }))
 
 unfoldable pub main_item : BlockItem → Body → Typing Body
 main_item i b = if b.clock then (refuse 23 (item_pos i) >> pure b) else main_by (clock_loop i) i b.stmts
 
-unfoldable pub main_items : List BlockItem → Body → Typing Body
-main_items [] b = pure b
-main_items (i ∷ is) b = main_item i b >>= main_items is
+abbrev pub main_items : List BlockItem → Body → Typing Body
+main_items is = each main_item is
 
 unfoldable pub main_block : List BlockItem → Typing Body
 main_block is = scoped (main_items is no_body)

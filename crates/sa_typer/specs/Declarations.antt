@@ -1,5 +1,6 @@
 -- Declarations of variables, inputs and locals (ISO C 6.7). There is no shadowing: a name that is visible isn't declared again,
 -- which is this project's own choice. A name is visible after its whole item.
+use Rattle.std.specs.List.{fold}
 use Rattle.std.specs.Prelude.{ℕ, ℤ, List, [], ◌∷◌, ◌++◌, ◌&&◌, Bool, true, false, not, if◌then◌else◌, length, Option, Some, None}
 use Rattle.sa_base.specs.declared.num.Num.{Num}
 use Rattle.sa_base.specs.declared.pos.Pos.{Pos}
@@ -41,7 +42,7 @@ use Rattle.sa_typer.specs.Operands.{sort_of, is_object, expr_or}
 use Rattle.sa_typer.specs.Expressions.{expr}
 use Rattle.sa_typer.specs.Initialisers.{init, trimmed}
 use Rattle.sa_typer.specs.Lists.{bounds, object_type}
-use Rattle.sa_typer.specs.Typing.{Typing, Gives, ◌>>=◌, ◌>>◌, pure, refuse, refuse_if, refused}
+use Rattle.sa_typer.specs.Typing.{Typing, Gives, ◌>>=◌, ◌>>◌, pure, refuse, refuse_if, refused, each}
 
 -- a name with what it stands for, or a refusal where it is visible already
 unfoldable pub named : Name → Named → Typing (Unit {0})
@@ -51,12 +52,12 @@ named x m = λ s. if is_visible s.names x.text then Gives tt (refused 2 x.pos s)
 abbrev pub var : Name → Shape → Home → Bool → List ℤ → Var
 var x shape home constant initial = record { name = x.text; pos = x.pos; shape = shape; home = home; constant = constant; initial = initial }
 
-abbrev pub added : Var → Typing ℕ
-added v = λ s. Gives (length s.vars) (record s { vars = s.vars ++ v ∷ [] })
+abbrev pub added : Var → Typing (Unit {0})
+added v = λ s. Gives tt (record s { vars = s.vars ++ v ∷ [] })
 
 -- another variable, and its number
 unfoldable pub variable : Name → Shape → Home → Bool → List ℤ → Typing ℕ
-variable x shape home constant initial = λ s. (named x (n.Variable (length s.vars)) >> added (var x shape home constant initial)) s
+variable x shape home constant initial = λ s. (named x (n.Variable (length s.vars)) >> added (var x shape home constant initial) >> pure (length s.vars)) s
 
 abbrev pub added_input : Name → Num → Typing (Unit {0})
 added_input x num = λ s. Gives tt (record s { inputs = s.inputs ++ record { name = x.text; num = num } ∷ [] })
@@ -88,18 +89,22 @@ unfoldable pub global : Bool → Ty → InitDeclr → Typing (Unit {0})
 global volatile ty d =
     bounds (out-Declr d.declr).bounds [] >>= (λ dims. global_by (input_type volatile ty.element dims d.start) volatile ty (out-Declr d.declr).name (shape_of ty.element dims) d.start)
 
-unfoldable pub globals : Bool → Ty → List InitDeclr → Typing (Unit {0})
-globals volatile ty [] = pure tt
-globals volatile ty (d ∷ ds) = global volatile ty d >> globals volatile ty ds
+abbrev pub next_global : Bool → Ty → InitDeclr → Unit {0} → Typing (Unit {0})
+next_global volatile ty d found = global volatile ty d
+
+abbrev pub globals : Bool → Ty → List InitDeclr → Typing (Unit {0})
+globals volatile ty ds = each (next_global volatile ty) ds tt
 
 -- all declared names are of scalars, as far as dimensions go
 abbrev pub is_bare : List Bound → Bool
 is_bare [] = true
 is_bare (b ∷ bs) = false
 
-unfoldable pub are_bare : List InitDeclr → Bool
-are_bare [] = true
-are_bare (d ∷ ds) = is_bare (out-Declr d.declr).bounds && are_bare ds
+abbrev pub and_bare : Bool → InitDeclr → Bool
+and_bare found d = found && is_bare (out-Declr d.declr).bounds
+
+abbrev pub are_bare : List InitDeclr → Bool
+are_bare ds = fold and_bare true ds
 
 abbrev pub is_struct : Element → Bool
 is_struct (el.Struct k) = true
@@ -141,9 +146,11 @@ unfoldable pub local_of : Ty → LocalDeclr → Typing Stmt
 local_of ty d =
     bounds (out-Declr d.declr).bounds [] >>= (λ dims. begun (shape_of ty.element dims) d.start >>= local_as ty (out-Declr d.declr).name (shape_of ty.element dims))
 
-unfoldable pub locals : Ty → List LocalDeclr → List Stmt → Typing (List Stmt)
-locals ty [] found = pure found
-locals ty (d ∷ ds) found = local_of ty d >>= (λ a. locals ty ds (found ++ a ∷ []))
+abbrev pub next_local : Ty → LocalDeclr → List Stmt → Typing (List Stmt)
+next_local ty d found = local_of ty d >>= (λ a. pure (found ++ a ∷ []))
+
+abbrev pub locals : Ty → List LocalDeclr → List Stmt → Typing (List Stmt)
+locals ty ds = each (next_local ty) ds
 
 -- a declaration in a block, after the statements so far
 unfoldable pub local : Local → List Stmt → Typing (List Stmt)

@@ -9,7 +9,7 @@ use Rattle.sa_syntax.specs.declared.decl.Qualified.{Qualified}
 use Rattle.sa_syntax.specs.declared.decl.Specifiers.{Specifiers, out-Specifiers}
 use Rattle.sa_syntax.specs.declared.decl.Struct.{Struct, Struct', Row_of-Field, more_of-Field, end_of-Field}
 use Rattle.sa_syntax.specs.declared.expr.Expr.{Expr, Number, Place', Bracket', Prefix', Cast', Chain', Choice', end_of-Expr, more_of-Expr, Row_of-Link, end_of-Link, more_of-Link, Row_of-Step, end_of-Step, more_of-Step, more_of-Specifiers, end_of-Specifiers}
-use Rattle.sa_syntax.specs.declared.expr.Link.{Link, out-Link}
+use Rattle.sa_syntax.specs.declared.expr.Operator.{Operator}
 use Rattle.sa_syntax.specs.declared.expr.Place.{Place, out-Place}
 use Rattle.sa_syntax.specs.declared.expr.PlaceBase.{PlaceBase}
 use Rattle.sa_syntax.specs.declared.expr.Step.{Step, Index', Field, Arrow}
@@ -34,20 +34,28 @@ abbrev pub beside_first : {n : _} → Row_of-Link n → Expr → Typing (Unit {0
 beside_first end_of-Link x = pure tt
 beside_first (more_of-Link op p y rest) x = beside op x
 
+-- another operator and operand after what stands so far, given what the operand is typed as
+abbrev pub linking : Operator → Pos → Expr → Typing Operand → Left → Typing Left
+linking op p x m l = m >>= (λ i. beside op x >> linked op p l i)
+
+-- another dimension
+abbrev pub bounding : Expr → Typing Operand → List ℕ → Typing (List ℕ)
+bounding x m found = m >>= (λ i. def.dimension (expr_pos x) i >>= (λ n. pure (found ++ n ∷ [])))
+
 unfoldable mutual
   pub expr : Expr → Typing Operand
   expr (Number v unsigned longs decimal p) = pure (literal v unsigned longs decimal)
-  expr (Place' b n row) = place.begins b >>= (λ l. steps row l >>= (λ l. pure (place.operand l)))
+  expr (Place' b n row) = place.begins b >>= steps row >>= (λ l. pure (place.operand l))
   expr (Bracket' p n (more_of-Expr x end_of-Expr)) = expr x
   expr (Prefix' op p n (more_of-Expr x end_of-Expr)) = expr x >>= (λ x. prefixed (prefix_of op) p x)
   expr (Cast' p m (more_of-Specifiers q qs b end_of-Specifiers) n (more_of-Expr x end_of-Expr)) =
-    qualifiers false true qs >> (object q qs (base_type q b) >>= (λ ty. expr x >>= (λ x. cast p ty.element x)))
+      qualifiers false true qs >> (object q qs (base_type q b) >>= (λ ty. expr x >>= (λ x. cast p ty.element x)))
   expr (Chain' m (more_of-Expr x end_of-Expr) n row) = expr x >>= (λ first. beside_first row x >> (links row (left_of first) >>= (λ l. pure (chained l))))
   expr (Choice' l x p m y n z) = pure a.Unknown
 
   pub links : {n : _} → Row_of-Link n → Left → Typing Left
   links end_of-Link l = pure l
-  links (more_of-Link op p x rest) l = expr x >>= (λ i. beside op x >> (linked op p l i >>= links rest))
+  links (more_of-Link op p x rest) l = linking op p x (expr x) l >>= links rest
 
   pub steps : {n : _} → Row_of-Step n → Spot → Typing Spot
   steps end_of-Step l = pure l
@@ -73,15 +81,15 @@ unfoldable mutual
   fields (more_of-Field x rest) f = field x f >>= fields rest
 
   pub field : FieldGroup → Fields → Typing Fields
-  field (Field' p qs b n row) f = qualifiers false false qs >> (object p qs (base_type p b) >>= (λ ty. declrs row ty f))
+  field (Field' p qs b n row) f = qualifiers false false qs >> (object p qs (base_type p b) >>= (λ ty. declrs ty row f))
 
-  pub declrs : {n : _} → Row_of-Declr n → Ty → Fields → Typing Fields
-  declrs end_of-Declr ty f = pure f
-  declrs (more_of-Declr x rest) ty f = declr x ty f >>= declrs rest ty
+  pub declrs : {n : _} → Ty → Row_of-Declr n → Fields → Typing Fields
+  declrs ty end_of-Declr f = pure f
+  declrs ty (more_of-Declr x rest) f = declr ty x f >>= declrs ty rest
 
-  pub declr : Declr → Ty → Fields → Typing Fields
-  declr (Declr' x n row) ty f = bounds row [] >>= (λ dims. def.field x ty dims f)
+  pub declr : Ty → Declr → Fields → Typing Fields
+  declr ty (Declr' x n row) f = bounds row [] >>= (λ dims. def.field x ty dims f)
 
   pub bounds : {n : _} → Row_of-Bound n → List ℕ → Typing (List ℕ)
   bounds end_of-Bound found = pure found
-  bounds (more_of-Bound p x rest) found = expr x >>= (λ i. def.dimension (expr_pos x) i >>= (λ n. bounds rest (found ++ n ∷ [])))
+  bounds (more_of-Bound p x rest) found = bounding x (expr x) found >>= bounds rest

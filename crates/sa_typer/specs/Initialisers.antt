@@ -1,6 +1,6 @@
 -- Initialisers (ISO C 6.7.8). Braces stand exactly where an array or a structure is, items are constant and within the type of
 -- their element, and missing ones are 0; that they stand for nothing else is this project's own choice.
-use Rattle.std.specs.Prelude.{ℕ, ℤ, pos, List, [], ◌∷◌, ◌++◌, Bool, true, false, if◌then◌else◌, map, replicate, slice_get, Option, Some, None}
+use Rattle.std.specs.Prelude.{ℕ, ◌+◌, ℤ, pos, List, [], ◌∷◌, ◌++◌, Bool, true, false, if◌then◌else◌, map, replicate, slice_get, Option, Some, None}
 use Rattle.std.specs.Ordering.{int_eq}
 use Rattle.sa_base.specs.declared.num.Num.{Num}
 use Rattle.sa_base.specs.declared.pos.Pos.{Pos}
@@ -11,7 +11,7 @@ use Rattle.sa_typed.specs.declared.shape.Shape.TheOpen.{Shape-F}
 use Rattle.sa_typer.specs.declared.operand.Operand.{Operand}
 use Rattle.sa_typer.specs.declared.operand.Operand.TheVariants as a
 use Rattle.sa_typer.specs.First.{expr_pos}
-use Rattle.sa_typer.specs.Structures.{slots, elements_in}
+use Rattle.sa_typer.specs.Structures.{slot, missing}
 use Rattle.sa_typer.specs.Values.{constant}
 use Rattle.sa_typer.specs.Operands.{known_value}
 use Rattle.sa_typer.specs.Expressions.{expr}
@@ -41,25 +41,26 @@ valued p shape x found = elim (out-Shape shape) as (λ _. Typing (List ℤ)) [
 abbrev pub zeros : ℕ → List ℤ
 zeros n = replicate n (pos 0)
 
+-- the item with that number of braces, which stand at that place, given what it is typed as for its slot
+abbrev pub slotted : Pos → Option Shape → List ℤ → (Shape → Typing (List ℤ)) → (List ℤ → Typing (List ℤ)) → Typing (List ℤ)
+slotted p None found m rest = refuse 20 p >> pure found
+slotted p (Some shape) found m rest = m shape >>= rest
+
 unfoldable mutual
   -- the values of the elements, in their order, after those so far
   pub init : Init → Shape → List ℤ → Typing (List ℤ)
   init (Value e) shape found = expr e >>= (λ x. valued (expr_pos e) shape x found)
-  init (Braces' p n row) shape found = λ s. braced row p (slots s.structs shape) found s
+  init (Braces' p n row) shape found = braced row p shape 0 found
 
-  pub braced : {n : _} → Row_of-Init n → Pos → Option (List Shape) → List ℤ → Typing (List ℤ)
-  braced end_of-Init p None found = refuse 20 p >> pure found
-  braced end_of-Init p (Some shapes) found = λ s. Gives (found ++ zeros (elements_in s.structs shapes)) s
-  braced (more_of-Init i rest) p None found = refuse 20 p >> pure found
-  braced (more_of-Init i rest) p (Some []) found = refuse 20 p >> pure found
-  braced (more_of-Init i rest) p (Some (shape ∷ shapes)) found = init i shape found >>= (λ found. braced rest p (Some shapes) found)
+  -- the items between braces from the one with that number on; each that is missing is 0
+  pub braced : {n : _} → Row_of-Init n → Pos → Shape → ℕ → List ℤ → Typing (List ℤ)
+  braced end_of-Init p shape k found = λ s. Gives (found ++ zeros (missing s.structs shape k)) s
+  braced (more_of-Init i rest) p shape k found = λ s. slotted p (slot s.structs shape k) found (λ inner. init i inner found) (λ found. braced rest p shape (k + 1) found) s
 
--- the items between braces, one after the other
-unfoldable pub items : List Init → Pos → Option (List Shape) → List ℤ → Typing (List ℤ)
-items is p None found = refuse 20 p >> pure found
-items [] p (Some shapes) found = λ s. Gives (found ++ zeros (elements_in s.structs shapes)) s
-items (i ∷ is) p (Some []) found = refuse 20 p >> pure found
-items (i ∷ is) p (Some (shape ∷ shapes)) found = init i shape found >>= (λ found. items is p (Some shapes) found)
+-- the same of a list
+unfoldable pub items : List Init → Pos → Shape → ℕ → List ℤ → Typing (List ℤ)
+items [] p shape k found = λ s. Gives (found ++ zeros (missing s.structs shape k)) s
+items (i ∷ is) p shape k found = λ s. slotted p (slot s.structs shape k) found (λ inner. init i inner found) (λ found. items is p shape (k + 1) found) s
 
 -- ---- without the zeros at the end
 abbrev pub is_zero : ℤ → Bool

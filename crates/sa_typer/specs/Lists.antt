@@ -1,5 +1,5 @@
 -- The lists of a tree, one part after the other.
-use Rattle.std.specs.Prelude.{ℕ, List, [], ◌∷◌, ◌++◌}
+use Rattle.std.specs.Prelude.{ℕ, List, [], ◌∷◌}
 use Rattle.sa_syntax.specs.declared.decl.Bound.{Bound, out-Bound}
 use Rattle.sa_syntax.specs.declared.decl.Declr.{Declr}
 use Rattle.sa_syntax.specs.declared.decl.Field.{Field as FieldGroup}
@@ -12,37 +12,37 @@ use Rattle.sa_typer.specs.declared.operand.Left.{Left}
 use Rattle.sa_typer.specs.declared.operand.Spot.{Spot}
 use Rattle.sa_typer.specs.declared.structs.Fields.{Fields}
 use Rattle.sa_typer.specs.declared.types.Ty.{Ty}
-use Rattle.sa_typer.specs.First.{expr_pos}
 use Rattle.sa_typer.specs.Types.{whole, object}
-use Rattle.sa_typer.specs.Operands.{beside, linked}
+use Rattle.sa_typer.specs.Operands.{beside}
 use Rattle.sa_typer.specs.Places as place
-use Rattle.sa_typer.specs.Definitions.{dimension}
-use Rattle.sa_typer.specs.Expressions.{expr, step, base_type, field, declr}
-use Rattle.sa_typer.specs.Typing.{Typing, ◌>>=◌, ◌>>◌, pure}
+use Rattle.sa_typer.specs.Expressions.{expr, step, base_type, field, declr, linking, bounding}
+use Rattle.sa_typer.specs.Typing.{Typing, ◌>>=◌, ◌>>◌, pure, each}
 
+-- the first operand of a chain stands beside its first operator
 unfoldable pub beside_head : List Link → Expr → Typing (Unit {0})
 beside_head [] x = pure tt
 beside_head (l ∷ ls) x = beside (out-Link l).op x
 
-unfoldable pub links : List Link → Left → Typing Left
-links [] l = pure l
-links (x ∷ xs) l = expr (out-Link x).operand >>= (λ i. beside (out-Link x).op (out-Link x).operand >> (linked (out-Link x).op (out-Link x).pos l i >>= links xs))
+abbrev pub link : Link → Left → Typing Left
+link x l = linking (out-Link x).op (out-Link x).pos (out-Link x).operand (expr (out-Link x).operand) l
 
-unfoldable pub steps : List Step → Spot → Typing Spot
-steps [] l = pure l
-steps (x ∷ xs) l = step x l >>= steps xs
+abbrev pub links : List Link → Left → Typing Left
+links xs = each link xs
 
-unfoldable pub fields : List FieldGroup → Fields → Typing Fields
-fields [] f = pure f
-fields (x ∷ xs) f = field x f >>= fields xs
+abbrev pub steps : List Step → Spot → Typing Spot
+steps xs = each step xs
 
-unfoldable pub declrs : List Declr → Ty → Fields → Typing Fields
-declrs [] ty f = pure f
-declrs (x ∷ xs) ty f = declr x ty f >>= declrs xs ty
+abbrev pub fields : List FieldGroup → Fields → Typing Fields
+fields xs = each field xs
 
-unfoldable pub bounds : List Bound → List ℕ → Typing (List ℕ)
-bounds [] found = pure found
-bounds (x ∷ xs) found = expr (out-Bound x).size >>= (λ i. dimension (expr_pos (out-Bound x).size) i >>= (λ n. bounds xs (found ++ n ∷ [])))
+abbrev pub declrs : Ty → List Declr → Fields → Typing Fields
+declrs ty xs = each (declr ty) xs
+
+abbrev pub bound : Bound → List ℕ → Typing (List ℕ)
+bound x found = bounding (out-Bound x).size (expr (out-Bound x).size) found
+
+abbrev pub bounds : List Bound → List ℕ → Typing (List ℕ)
+bounds xs = each bound xs
 
 -- a place
 unfoldable pub spot : Place → Typing Spot

@@ -39,7 +39,9 @@ use Rattle.sa_typer.specs.declared.operand.Spot.{Spot}
 use Rattle.sa_typer.specs.First.{place_pos, item_pos}
 use Rattle.sa_typer.specs.Constants.{working}
 use Rattle.sa_typer.specs.Operands.{stand_in, sort_of, is_object}
-use Rattle.sa_typer.specs.Places.{access, operand}
+use Rattle.sa_typer.specs.Places.{access}
+use Rattle.sa_typer.specs.declared.operand.Sort.{Sort}
+use Rattle.sa_typer.specs.declared.operand.Sort.TheVariants as sort
 use Rattle.sa_typer.specs.Expressions.{expr}
 use Rattle.sa_typer.specs.Lists.{spot}
 use Rattle.sa_typer.specs.Declarations.{local}
@@ -47,47 +49,44 @@ use Rattle.sa_typer.specs.Scopes.{oldest, count}
 use Rattle.sa_typer.specs.Typing.{Typing, Gives, and_then, ◌>>=◌, ◌>>◌, pure, refuse, refuse_if}
 
 -- ---- assignments (ISO C 6.5.16)
-abbrev pub some_assignment : Spot → Pos → Simple
-some_assignment l p = simply.Assign (access l) I32 p stand_in
+abbrev pub some_assignment : Access → Pos → Simple
+some_assignment x p = simply.Assign x I32 p stand_in
 
-abbrev pub mismatched : Spot → Pos → Typing Simple
-mismatched l p = refuse 5 p >> pure (some_assignment l p)
+abbrev pub mismatched : Access → Pos → Typing Simple
+mismatched x p = refuse 5 p >> pure (some_assignment x p)
 
 -- a number is assigned to, and what to it
-abbrev pub to_number : Spot → Num → Pos → Operand → Typing Simple
-to_number l num p (a.Number x from v) = pure (simply.Assign (access l) num p x)
-to_number l num p (a.Struct x k fixed q) = mismatched l p
-to_number l num p (a.Array q) = mismatched l p
-to_number l num p a.Unknown = pure (some_assignment l p)
+abbrev pub to_number : Access → Num → Pos → Operand → Typing Simple
+to_number x num p (a.Number e from v) = pure (simply.Assign x num p e)
+to_number x num p (a.Struct y k fixed q) = mismatched x p
+to_number x num p (a.Array q) = mismatched x p
+to_number x num p a.Unknown = pure (some_assignment x p)
 
 -- a whole structure is copied to one of the same number, where no index on either side varies
-abbrev pub to_struct : Spot → ℕ → Pos → Operand → Typing Simple
-to_struct l k p (a.Number x from v) = mismatched l p
-to_struct l k p (a.Struct x j fixed q) = refuse_if (not (k == j && l.fixed && fixed)) 7 p >> pure (simply.Copy k (access l) p x)
-to_struct l k p (a.Array q) = mismatched l p
-to_struct l k p a.Unknown = pure (some_assignment l p)
+abbrev pub to_struct : Access → Bool → ℕ → Pos → Operand → Typing Simple
+to_struct x fixed k p (a.Number e from v) = mismatched x p
+to_struct x fixed k p (a.Struct y j from_fixed q) = refuse_if (not (k == j && fixed && from_fixed)) 7 p >> pure (simply.Copy k x p y)
+to_struct x fixed k p (a.Array q) = mismatched x p
+to_struct x fixed k p a.Unknown = pure (some_assignment x p)
 
-abbrev pub to_array : Spot → Pos → Operand → Typing Simple
-to_array l p a.Unknown = pure (some_assignment l p)
-to_array l p x = mismatched l p
+-- an array isn't assigned to, whatever known sort is
+abbrev pub to_array : Access → Pos → Sort → Typing Simple
+to_array x p sort.Unknown = pure (some_assignment x p)
+to_array x p _ = mismatched x p
 
 abbrev pub to_shape : Spot → Shape → Pos → Operand → Typing Simple
-to_shape l shape p x = elim (out-Shape shape) as (λ _. Typing Simple) [
-  | Shape-F.Scalar num ↦ to_number l num p x
-  | Shape-F.Struct k ↦ to_struct l k p x
-  | Shape-F.Array inner count ↦ to_array l p x
+to_shape l shape p i = elim (out-Shape shape) as (λ _. Typing Simple) [
+  | Shape-F.Scalar num ↦ to_number (access l) num p i
+  | Shape-F.Struct k ↦ to_struct (access l) l.fixed k p i
+  | Shape-F.Array inner count ↦ to_array (access l) p (sort_of i)
 ]
 
 abbrev pub to_option : Spot → Option Shape → Pos → Operand → Typing Simple
-to_option l None p x = pure (some_assignment l p)
-to_option l (Some shape) p x = to_shape l shape p x
+to_option l None p i = pure (some_assignment (access l) p)
+to_option l (Some shape) p i = to_shape l shape p i
 
 unfoldable pub assigned : Spot → Pos → Operand → Typing Simple
-assigned l p x = to_option l l.shape p x
-
--- a constant or an input is no left side; the place is that of the left side's first token
-abbrev pub left_side : Pos → Spot → Typing (Unit {0})
-left_side p l = refuse_if l.locked 6 p
+assigned l p i = to_option l l.shape p i
 
 -- ---- compound assignments, `++` and `--`
 abbrev pub compound_of : Compound → Operator
@@ -109,19 +108,37 @@ turn_of turn.Down = op.Minus
 abbrev pub one : Operand
 one = a.Number (e.Number 1 I32) I32 Varies
 
--- the left side's operand is given besides, and no number on one of the sides is refused
-abbrev pub compounded_by : Spot → Operator → Pos → Operand → Operand → Typing Simple
-compounded_by l o p (a.Number y to w) (a.Number x from v) = pure (simply.Compound (access l) to o p (working o to from) x)
-compounded_by l o p y x = refuse_if (is_object (sort_of y) || is_object (sort_of x)) 5 p >> pure (some_assignment l p)
+abbrev pub known_sort : Shape → Sort
+known_sort shape = elim (out-Shape shape) as (λ _. Sort) [ Shape-F.Scalar num ↦ sort.Number num | _ ↦ sort.Object ]
+
+abbrev pub shape_sort : Option Shape → Sort
+shape_sort None = sort.Unknown
+shape_sort (Some shape) = known_sort shape
+
+-- numbers on both sides, given the sort of the left one
+abbrev pub compounded_number : Access → Operator → Pos → Sort → Expr → Num → Typing Simple
+compounded_number x o p (sort.Number to) e from = pure (simply.Compound x to o p (working o to from) e)
+compounded_number x o p sort.Object e from = mismatched x p
+compounded_number x o p sort.Unknown e from = pure (some_assignment x p)
+
+abbrev pub compounded_by : Access → Operator → Pos → Sort → Operand → Typing Simple
+compounded_by x o p left (a.Number e from v) = compounded_number x o p left e from
+compounded_by x o p left (a.Struct y k fixed q) = mismatched x p
+compounded_by x o p left (a.Array q) = mismatched x p
+compounded_by x o p left a.Unknown = refuse_if (is_object left) 5 p >> pure (some_assignment x p)
 
 unfoldable pub compounded : Spot → Operator → Pos → Operand → Typing Simple
-compounded l o p x = compounded_by l o p (operand l) x
+compounded l o p i = compounded_by (access l) o p (shape_sort l.shape) i
+
+-- a left side, which is neither constant nor an input
+abbrev pub left_side : Place → Typing Spot
+left_side x = spot x >>= (λ l. refuse_if l.locked 6 (place_pos x) >> pure l)
 
 unfoldable pub simple : from.Simple → Typing Simple
-simple (x.Assign y p i) = spot y >>= (λ l. left_side (place_pos y) l >> (expr i >>= (λ i. assigned l p i)))
-simple (x.Compound y o p i) = spot y >>= (λ l. left_side (place_pos y) l >> (expr i >>= (λ i. compounded l (compound_of o) p i)))
-simple (x.After y o p) = spot y >>= (λ l. left_side (place_pos y) l >> compounded l (turn_of o) p one)
-simple (x.Before o p y) = spot y >>= (λ l. left_side (place_pos y) l >> compounded l (turn_of o) p one)
+simple (x.Assign y p i) = left_side y >>= (λ l. expr i >>= (λ i. assigned l p i))
+simple (x.Compound y o p i) = left_side y >>= (λ l. expr i >>= (λ i. compounded l (compound_of o) p i))
+simple (x.After y o p) = left_side y >>= (λ l. compounded l (turn_of o) p one)
+simple (x.Before o p y) = left_side y >>= (λ l. compounded l (turn_of o) p one)
 
 -- ---- statements
 -- what is declared in a block is visible to its end
@@ -132,16 +149,16 @@ unfoldable pub scoped : {A : Type 0} → Typing A → Typing A
 scoped m = λ s. (m >>= left_scope (count s.names) (count s.tags)) s
 
 -- a wait that doesn't end the clock loop; other directives aren't built yet
-abbrev pub directive : Pos → Directive → List Stmt → Typing (List Stmt)
-directive p d.Wait found = refuse 23 p >> pure found
-directive p _ found = pure found
+abbrev pub directive : Pos → Directive → Typing (Unit {0})
+directive p d.Wait = refuse 23 p
+directive p _ = pure tt
 
 unfoldable mutual
   -- a statement, after the ones so far; what isn't built yet is nothing
   pub stmt : stmts.Stmt → List Stmt → Typing (List Stmt)
   stmt (stmts.Block' p n row q) found = scoped (items row []) >>= (λ ss. pure (found ++ t.Block ss ∷ []))
   stmt (stmts.Simple y) found = simple y >>= (λ y. pure (found ++ t.Simple y ∷ []))
-  stmt (stmts.Directive p y) found = directive p y found
+  stmt (stmts.Directive p y) found = directive p y >> pure found
   stmt _ found = pure found
 
   pub items : {n : _} → Row_of-BlockItem n → List Stmt → Typing (List Stmt)

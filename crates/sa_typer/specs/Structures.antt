@@ -1,9 +1,9 @@
 -- The structures that are defined so far, and how many elements an object has.
-use Rattle.std.specs.Prelude.{ℕ, ◌≡◌, ◌+◌, ◌*◌, ◌-◌, ◌^◌, List, [], ◌∷◌, ◌++◌, Bool, true, false, if◌then◌else◌, nat_le, get_or, map, min, length, replicate, slice_get, Option, Some, None}
-use Rattle.sa_typed.specs.declared.shape.Shape.{Shape, out-Shape, Scalar, Struct, Array', more_of-Shape, end_of-Shape}
+use Rattle.std.specs.Prelude.{ℕ, ◌≡◌, ◌+◌, ◌*◌, ◌-◌, ◌^◌, List, [], ◌∷◌, ◌++◌, Bool, true, false, if◌then◌else◌, nat_le, get_or, map, min, length, drop, replicate, slice_get, Option, Some, None}
+use Rattle.sa_typed.specs.declared.program.Var.{Var}
+use Rattle.sa_typed.specs.declared.shape.Shape.{Shape, Scalar, Struct, Array', more_of-Shape, end_of-Shape}
 use Rattle.sa_typed.specs.declared.shape.FieldDef.{FieldDef}
 use Rattle.sa_typed.specs.declared.shape.StructDef.{StructDef}
-use Rattle.sa_typed.specs.declared.shape.Shape.TheOpen.{Shape-F}
 use Rattle.sa_typer.specs.declared.structs.Fields.{Fields}
 use Rattle.sa_typer.specs.declared.structs.Member.{Member}
 use Rattle.sa_typer.specs.Scopes.{Scope, index_of}
@@ -33,6 +33,9 @@ field_shape f = f.shape
 
 abbrev pub field_shapes : StructDef → List Shape
 field_shapes d = map field_shape d.fields
+
+abbrev pub var_shape : Var → Shape
+var_shape v = v.shape
 
 -- how many elements each structure has; its fields hold only structures before it
 unfoldable pub sizes_from : Bool → List ℕ → List StructDef → List ℕ
@@ -67,12 +70,18 @@ shapes_in None = []
 shapes_in (Some d) = field_shapes d
 
 -- elements or fields, in their order; none where there is a number
-unfoldable pub slots : Structs → Shape → Option (List Shape)
-slots s shape = elim (out-Shape shape) as (λ _. Option (List Shape)) [
-  | Shape-F.Scalar num ↦ None
-  | Shape-F.Struct k ↦ Some (shapes_in (slice_get s.defs k))
-  | Shape-F.Array inner count ↦ Some (replicate count inner)
-]
+unfoldable pub slots : Structs → Shape → List Shape
+slots s (Scalar num) = []
+slots s (Struct k) = shapes_in (slice_get s.defs k)
+slots s (Array' n (more_of-Shape element end_of-Shape) count) = replicate count element
+
+-- what the item with that number is for
+unfoldable pub slot : Structs → Shape → ℕ → Option Shape
+slot s shape k = slice_get (slots s shape) k
+
+-- how many elements there are after so many items
+unfoldable pub missing : Structs → Shape → ℕ → ℕ
+missing s shape k = elements_in s (drop k (slots s shape))
 
 -- ---- fields
 abbrev pub member_by : ℕ → Option FieldDef → Option Bool → Option Member

@@ -1,5 +1,5 @@
 -- Sources: what a tree is typed as, or how it is refused.
-use Rattle.std.specs.Prelude.{ℕ, ◌+◌, List, [], ◌∷◌, ◌++◌, ◌&&◌, Bool, true, false, if◌then◌else◌, map, nat_le, Option, Some, None, codes}
+use Rattle.std.specs.Prelude.{ℕ, ◌≡◌, Result, Ok, Err, ◌+◌, List, [], ◌∷◌, ◌++◌, ◌&&◌, Bool, true, false, if◌then◌else◌, map, nat_le, Option, Some, None, codes}
 use Rattle.std.specs.Str.{bytes_eq}
 use Rattle.sa_base.specs.Numbers.{limit_number}
 use Rattle.sa_base.specs.declared.limit.Limit.TheVariants.{Cells}
@@ -16,10 +16,10 @@ use Rattle.sa_syntax.specs.declared.unit.Item.TheVariants as top
 use Rattle.sa_syntax.specs.declared.unit.Unit.{Unit as Source}
 use Rattle.sa_typed.specs.declared.program.Func.{Func}
 use Rattle.sa_typed.specs.declared.program.Program.{Program}
-use Rattle.sa_typed.specs.declared.program.Var.{Var}
-use Rattle.sa_typed.specs.declared.shape.Shape.{Shape}
 use Rattle.sa_typer.specs.declared.bodies.Body.{Body}
 use Rattle.sa_typer.specs.declared.bodies.Entry.{Entry}
+use Rattle.sa_typer.specs.declared.fault.TypeFault.{TypeFault}
+use Rattle.sa_typer.specs.declared.fault.TypeFault.TheVariants as f
 use Rattle.sa_typer.specs.declared.typer.Fault.{Fault}
 use Rattle.sa_typer.specs.declared.typer.Typer.{Typer}
 use Rattle.sa_typer.specs.declared.types.Element.{Element}
@@ -27,13 +27,13 @@ use Rattle.sa_typer.specs.declared.types.Element.TheVariants as el
 use Rattle.sa_typer.specs.declared.types.Named.TheVariants as n
 use Rattle.sa_typer.specs.declared.types.Ty.{Ty}
 use Rattle.sa_typer.specs.Scopes.{nothing, is_visible}
-use Rattle.sa_typer.specs.Structures.{cells_in}
+use Rattle.sa_typer.specs.Structures.{cells_in, var_shape}
 use Rattle.sa_typer.specs.Types.{qualifiers}
 use Rattle.sa_typer.specs.Expressions.{structure}
 use Rattle.sa_typer.specs.Lists.{type_of}
 use Rattle.sa_typer.specs.Declarations.{named, declared, is_struct}
 use Rattle.sa_typer.specs.Bodies.{main_block}
-use Rattle.sa_typer.specs.Typing.{Typed, Typing, Gives, ◌>>=◌, ◌>>◌, pure, refuse_if, refused, fault, lesser}
+use Rattle.sa_typer.specs.Typing.{Typed, Typing, Gives, ◌>>=◌, ◌>>◌, pure, refuse_if, refused, fault, lesser, each}
 
 -- ---- items
 -- a type before a name at file scope, where `volatile` is out of place
@@ -65,9 +65,8 @@ item (top.Global ty ds) found = declared ty ds >> pure found
 item (top.Proto ty x ps) found = pure found
 item (top.Func ty x ps b) found = if is_main x then main ty x b found else pure found
 
-unfoldable pub items : List Item → Option Entry → Typing (Option Entry)
-items [] found = pure found
-items (i ∷ is) found = item i found >>= items is
+abbrev pub items : List Item → Option Entry → Typing (Option Entry)
+items is = each item is
 
 -- ---- the whole
 abbrev pub blank : Typer
@@ -123,9 +122,6 @@ program s e = record {
   thresholds = s.thresholds;
 }
 
-abbrev pub var_shape : Var → Shape
-var_shape v = v.shape
-
 unfoldable pub cells : Typer → Entry → ℕ
 cells s e = cells_in s.structs (map var_shape s.vars) + result_cells (result_of e.result)
 
@@ -147,3 +143,10 @@ answered end (Gives e s) = answer_by end e s
 -- the answer to a tree whose text ends there
 unfoldable pub answer : Source → Pos → Answer
 answer u end = answered end (items u.items None blank)
+
+-- what typing tells of a source: its program, its least refusal, or that it has too many cells; want of memory says nothing
+abbrev pub Tells : Answer → Result Program TypeFault → Type 0
+Tells a (Ok p) = a ≡ Accepts p
+Tells a (Err (f.Refused r)) = a ≡ Refuses r
+Tells a (Err (f.TooMany limit)) = (limit ≡ Cells) × (a ≡ TooManyCells)
+Tells a (Err f.OutOfMemory) = Unit {0}

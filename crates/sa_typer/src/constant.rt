@@ -70,11 +70,7 @@ impl Constant {
     }
 
     /// What an operator gives, where its evaluation doesn't err.
-    #[tactic(
-        auto,
-        unfolding(crate::specs::Constants::operated),
-        using(crate::proofs::ConstantLemmas::operands)
-    )]
+    #[tactic(auto, unfolding(crate::specs::Constants::operated), using(crate::proofs::ConstantLemmas::operands))]
     pub fn operated(self, op: Operator, other: Constant) -> Option<Constant>
         ensures { result ≡ spec.operated op self other }
     {
@@ -89,11 +85,7 @@ impl Constant {
     }
 
     /// What an operator before it gives, where its evaluation doesn't err.
-    #[tactic(
-        auto,
-        unfolding(crate::specs::Constants::operated_prefix),
-        using(crate::proofs::ConstantLemmas::operands)
-    )]
+    #[tactic(auto, unfolding(crate::specs::Constants::operated_prefix), using(crate::proofs::ConstantLemmas::operands))]
     pub fn prefixed(self, op: Prefix) -> Option<Constant>
         ensures { result ≡ spec.operated_prefix op self }
     {

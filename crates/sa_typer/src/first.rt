@@ -52,9 +52,9 @@ fn simple_pos(simple: &Simple) -> Pos
     ensures { result ≡ spec.simple_pos simple.now }
 {
     match simple {
-        Simple::Assign(place, _, _) | Simple::Compound(place, _, _, _) | Simple::After(place, _, _) => {
-            place_pos(place)
-        }
+        Simple::Assign(place, _, _)
+        | Simple::Compound(place, _, _, _)
+        | Simple::After(place, _, _) => { place_pos(place) }
         Simple::Before(_, pos, _) => *pos,
     }
 }

@@ -5,17 +5,24 @@
 #![tactic(auto)]
 
 mod bodies;
+mod body;
 mod constant;
+mod declaration;
 mod definition;
+mod expr;
+mod fault;
 mod first;
+mod initial;
 mod operand;
 mod place;
 mod scope;
+mod statement;
 mod structs;
 mod typer;
 mod types;
 mod unbuilt;
 mod unit;
 
+pub use fault::TypeFault;
 pub use unbuilt::first_unbuilt;
-pub use unit::{TypeFault, type_unit};
+pub use unit::type_unit;

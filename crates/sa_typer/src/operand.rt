@@ -246,11 +246,7 @@ fn cast_number(
     ensures { IfOk result (λ o. o ≡ spec.cast_number pos num expr value) }
 {
     let operand = Boxed::new(alloc, expr)?;
-    Ok(Operand::Number(
-        Expr::Cast(pos, num, operand),
-        num,
-        value.cast(num),
-    ))
+    Ok(Operand::Number(Expr::Cast(pos, num, operand), num, value.cast(num)))
 }
 
 /// An operator before its operand.
@@ -297,9 +293,7 @@ fn miscast(typer: &mut Typer, pos: Pos, operand: &Operand) -> Operand
     ensures { spec.miscast pos operand.now typer.old ≡ Gives result typer.new }
 {
     match operand {
-        Operand::Number(_, _, value) => {
-            Operand::Number(stand_in(), Num::I32, value.miscast())
-        }
+        Operand::Number(_, _, value) => { Operand::Number(stand_in(), Num::I32, value.miscast()) }
         _ => no_number(typer, pos, operand.sort()),
     }
 }

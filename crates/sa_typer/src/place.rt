@@ -73,12 +73,7 @@ fn spot_at(alloc: Global, name: Pos, root: Root, shape: Option<Shape>, locked: b
     }
 }
 
-fn variable_at(
-    alloc: Global,
-    pos: Pos,
-    number: u32,
-    var: Option<&Var>,
-) -> Result<Spot, OutOfMemory>
+fn variable_at(alloc: Global, pos: Pos, number: u32, var: Option<&Var>) -> Result<Spot, OutOfMemory>
     ensures { IfOk result (λ l. l ≡ spec.variable_at pos number (option_copied var.entry)) }
 {
     let root = Root::Variable(number);
@@ -104,11 +99,7 @@ fn spot_of(alloc: Global, typer: &Typer, pos: Pos, root: Root) -> Result<Spot, O
 
 /// Where a place begins.
 #[tactic(auto, unfolding(crate::specs::Places::begins))]
-pub fn begins(
-    alloc: Global,
-    typer: &mut Typer,
-    base: &PlaceBase,
-) -> Result<Spot, OutOfMemory>
+pub fn begins(alloc: Global, typer: &mut Typer, base: &PlaceBase) -> Result<Spot, OutOfMemory>
     ensures { Yields (spec.begins base.now typer.old) result typer.new }
 {
     match base {
@@ -314,7 +305,8 @@ fn var_of(root: Root) -> u32
     }
 }
 
-fn access_of(root: Root, steps: Items<Step>) -> Access
+/// The access that a root and steps make.
+pub fn access_of(root: Root, steps: Items<Step>) -> Access
     ensures { result ≡ spec.access_of root steps }
 {
     Access {

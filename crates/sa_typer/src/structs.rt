@@ -1,12 +1,12 @@
 //! The structures that are defined so far.
 
-ghost use Rattle.std.specs.Prelude.{◌≡◌, ◌++◌, ◌∷◌, [], IfOk, OnOk, OnErr, slice_get, List, ℕ, map, get_or, length};
+ghost use Rattle.std.specs.Prelude.{◌≡◌, true, ◌++◌, ◌∷◌, [], IfOk, OnOk, OnErr, slice_get, List, ℕ, map, get_or, length, drop, option_map, ◌-◌};
 ghost use Rattle.std.specs.Option.{option_copied};
 ghost use Rattle.sa_typer.specs.Structures as spec;
 
 use crate::scope::Scope;
 use sa_base::{OutOfMemory, Text};
-use sa_typed::{FieldDef, Shape, StructDef};
+use sa_typed::{FieldDef, Shape, StructDef, Var};
 use sqlite_items::{Boxed, Items};
 use std::alloc::Global;
 use std::marker::Model;
@@ -23,7 +23,6 @@ pub struct Structs {
 
 impl Model for Structs {
     ghost use Rattle.sa_typer.specs.Structures as spec;
-
     ghost use Rattle.std.specs.Coded.{codes};
     ghost use Rattle.sa_typed.specs.contracts.shape.Shape as shape;
 
@@ -34,7 +33,6 @@ impl Model for Structs {
     ghost view = { λ s. record { defs = s.defs; members = s.members } };
 
     ghost use Rattle.sa_typer.specs.Structures.{AreCounted};
-
     ghost use Rattle.std.specs.Prelude.{true, false};
 
     ghost invariant = { λ s. AreCounted false s.sizes s.defs × AreCounted true s.cells s.defs };
@@ -110,10 +108,7 @@ fn times(starred: bool, count: u32) -> u64
 }
 
 /// How many elements an object has, where the structures have so many.
-#[tactic(
-    auto,
-    using(crate::proofs::SizeLemmas::size_rows)
-)]
+#[tactic(auto, using(crate::proofs::SizeLemmas::size_rows))]
 fn size_by(starred: bool, sizes: &[u64], shape: &Shape) -> u64
     ensures { (exact : List ℕ) → sizes.now ≡ map spec.kept exact → result ≡ spec.kept (spec.size_by starred exact shape.now) }
 {
@@ -136,10 +131,7 @@ fn struct_size(sizes: &[u64], at: usize) -> u64
 }
 
 /// How many elements fields have together.
-#[tactic(
-    auto,
-    using(crate::proofs::SizeLemmas::sums)
-)]
+#[tactic(auto, using(crate::proofs::SizeLemmas::sums))]
 fn fields_size(starred: bool, sizes: &[u64], fields: &[FieldDef]) -> u64
     ensures { (exact : List ℕ) → sizes.now ≡ map spec.kept exact → result ≡ spec.kept (spec.sum_by starred exact (map spec.field_shape fields.now)) }
 {
@@ -195,6 +187,64 @@ impl Structs {
         Ok(number)
     }
 
+    /// What the item with that number is for, between the braces of an object.
+    #[tactic(auto, using(crate::proofs::SlotLemmas::slot_rows))]
+    pub fn slot(
+        &self,
+        alloc: Global,
+        shape: &Shape,
+        at: usize,
+    ) -> Result<Option<Shape>, OutOfMemory>
+        ensures { IfOk result (λ s. s ≡ spec.slot self.now shape.now at) }
+    {
+        match shape {
+            Shape::Scalar(_) => Ok(None),
+            Shape::Struct(number) => {
+                shape_in(alloc, field_at(self.defs.get(*number as usize), at))
+            }
+            Shape::Array(element, count) => {
+                if at < *count as usize {
+                    Ok(Some(copy_shape(alloc, element.get())?))
+                } else {
+                    Ok(None)
+                }
+            }
+        }
+    }
+
+    /// How many elements of an object there are after so many items.
+    #[tactic(auto, using(crate::proofs::SlotLemmas::missing_rows))]
+    pub fn missing(&self, shape: &Shape, given: usize) -> Result<u64, OutOfMemory>
+        ensures { IfOk result (λ n. n ≡ spec.missing self.now shape.now given) }
+    {
+        let sizes = self.sizes.as_slice();
+        match shape {
+            Shape::Scalar(_) => Ok(0),
+            Shape::Struct(number) => {
+                let fields = fields_from(self.defs.get(*number as usize), given);
+                exact(fields_size(false, sizes, fields))
+            }
+            Shape::Array(element, count) => {
+                exact(left_of(*count, given).saturating_mul(size_by(false, sizes, element.get())))
+            }
+        }
+    }
+
+    /// How many cells variables have together, or the greatest count if that is too large.
+    #[tactic(auto, unfolding(crate::specs::Structures::cells_in))]
+    pub fn cells(&self, vars: &[Var]) -> u64
+        ensures { result ≡ spec.kept (spec.cells_in self.now (map spec.var_shape vars.now)) }
+    {
+        vars_size(self.cells.as_slice(), vars)
+    }
+
+    /// The structures.
+    pub fn into_defs(self) -> Items<StructDef>
+        ensures { result ≡ self.defs }
+    {
+        self.defs
+    }
+
     /// The field with that name of the structure with that number.
     #[tactic(auto, unfolding(crate::specs::Structures::member_of))]
     pub fn member(
@@ -211,10 +261,68 @@ impl Structs {
             Some(names) => match names.index(name) {
                 None => Ok(None),
                 Some(index) => {
-                    member_by(alloc, index, field_at(self.defs.get(at), index), names.nth(index))
+                    member_by(
+                        alloc,
+                        index,
+                        field_at(self.defs.get(at), index),
+                        names.nth(index),
+                    )
                 }
             },
         }
     }
 }
 
+fn shape_in(alloc: Global, field: Option<&FieldDef>) -> Result<Option<Shape>, OutOfMemory>
+    ensures { IfOk result (λ s. s ≡ option_map spec.field_shape (option_copied field.entry)) }
+{
+    match field {
+        None => Ok(None),
+        Some(field) => Ok(Some(copy_shape(alloc, &field.shape)?)),
+    }
+}
+
+fn fields_from(def: Option<&StructDef>, given: usize) -> &[FieldDef]
+    ensures { result.now ≡ drop given (spec.fields_in (option_copied def.entry)) }
+{
+    match def {
+        None => &[],
+        Some(def) => {
+            let fields = def.fields.as_slice();
+            if given <= fields.len() {
+                &fields[given..]
+            } else {
+                &[]
+            }
+        }
+    }
+}
+
+/// A count that isn't too large.
+fn exact(count: u64) -> Result<u64, OutOfMemory>
+    ensures { (n : ℕ) → count ≡ spec.kept n → IfOk result (λ m. m ≡ n) }
+{
+    if count < u64::MAX {
+        Ok(count)
+    } else {
+        Err(OutOfMemory)
+    }
+}
+
+fn left_of(count: u32, given: usize) -> u64
+    ensures { result ≡ count - given }
+{
+    u64::from(count).saturating_sub(given as u64)
+}
+
+/// How many cells variables have together.
+#[tactic(auto, using(crate::proofs::SizeLemmas::sums))]
+fn vars_size(sizes: &[u64], vars: &[Var]) -> u64
+    ensures { (exact : List ℕ) → sizes.now ≡ map spec.kept exact → result ≡ spec.kept (spec.sum_by true exact (map spec.var_shape vars.now)) }
+{
+    let mut total = 0_u64;
+    for var in vars {
+        total = total.saturating_add(size_by(true, sizes, &var.shape));
+    }
+    total
+}

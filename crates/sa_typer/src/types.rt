@@ -242,11 +242,7 @@ fn check_qualifier(typer: &mut Typer, volatile: bool, fixed: bool, word: &Qualif
 }
 
 /// Refuses each word that is out of place where `volatile` may stand, and `static`.
-#[tactic(
-    auto,
-    unfolding(crate::specs::Types::qualifiers),
-    using(crate::proofs::Loops::loops)
-)]
+#[tactic(auto, unfolding(crate::specs::Types::qualifiers), using(crate::proofs::Loops::loops))]
 pub fn check_qualifiers(typer: &mut Typer, volatile: bool, fixed: bool, words: &[Qualified])
     ensures { spec.qualifiers volatile fixed words.now typer.old ≡ Gives result typer.new }
 {
@@ -357,11 +353,7 @@ fn element_shape(element: Element) -> Shape
 }
 
 /// What has such elements and dimensions, the outermost first.
-#[tactic(
-    auto,
-    unfolding(crate::specs::Types::shape_of),
-    using(crate::proofs::ShapeLemmas::shapes)
-)]
+#[tactic(auto, unfolding(crate::specs::Types::shape_of), using(crate::proofs::ShapeLemmas::shapes))]
 pub fn shape_of(alloc: Global, element: Element, dimensions: &[u32]) -> Result<Shape, OutOfMemory>
     ensures { IfOk result (λ s. s ≡ spec.shape_of element dimensions.now) }
 {

@@ -1,34 +1,295 @@
-//! Sources.
+//! Whole sources.
 
-ghost use Rattle.std.specs.Prelude.{◌≡◌, ◌≤◌, IfOk, IfErr, length};
-ghost use Rattle.sa_typed.specs.Cells.{cells};
-ghost use Rattle.sa_typed.specs.WellTyped.{IsTyped};
-ghost use Rattle.sa_typer.specs.Unbuilt.{IsBuilt};
-ghost use Rattle.sa_typer.specs.Units.{answer, Accepts};
+ghost use Rattle.std.specs.Prelude.{◌≡◌, None, IfOk, IfErr, nat_le};
+ghost use Rattle.sa_base.specs.Numbers.{limit_number};
+ghost use Rattle.sa_base.specs.declared.limit.Limit.TheVariants.{Cells};
+ghost use Rattle.sa_typer.specs.Units as spec;
+ghost use Rattle.sa_typer.specs.Units.{Accepts, Tells};
 ghost use Rattle.sa_typer.specs.Answers.{IsFault};
+ghost use Rattle.sa_typer.specs.Typing.{Gives, Yields};
 
-use sa_base::{Limit, OutOfMemory, Pos, Refusal};
-use sa_syntax::Unit;
-use sa_typed::Program;
+use crate::bodies::{Body, Entry};
+use crate::body::main_block;
+use crate::declaration::{declare, declare_globals, is_struct};
+use crate::expr::{structure, type_of};
+use crate::fault::TypeFault;
+use crate::scope::Scope;
+use crate::structs::Structs;
+use crate::typer::{Fault, Typer, lesser};
+use crate::types::{Element, Named, Ty, check_qualifiers};
+use sa_base::{Code, Limit, Num, OutOfMemory, Pos, Refusal, Text};
+use sa_syntax::{Block, Item, Name, Specifiers, Unit};
+use sa_typed::{Func, Program};
+use sqlite_items::Items;
 use std::alloc::Global;
 
-/// Why a tree has no program.
-#[derive(Clone, Copy, Debug, PartialEq, Eq)]
-pub enum TypeFault {
-    /// It is refused.
-    Refused(Refusal),
-    /// It exceeds a limit.
-    TooMany(Limit),
-    OutOfMemory,
+// ---- items
+
+/// A type before a name at file scope, where `volatile` is out of place.
+fn plain_type(alloc: Global, typer: &mut Typer, ty: &Specifiers) -> Result<Ty, OutOfMemory>
+    ensures { Yields (spec.plain_type ty.now typer.old) result typer.new }
+{
+    check_qualifiers(typer, false, true, ty.qualifiers.as_slice());
+    type_of(alloc, typer, ty)
 }
 
-/// The typed program of a tree whose text ends there, or the first refusal.
+#[tactic(auto, unfolding(crate::specs::Units::type_name))]
+fn type_name(
+    alloc: Global,
+    typer: &mut Typer,
+    ty: &Specifiers,
+    name: &Name,
+) -> Result<(), OutOfMemory>
+    ensures { Yields (spec.type_name ty.now name.now typer.old) result typer.new }
+{
+    let ty = plain_type(alloc, typer, ty)?;
+    declare(alloc, typer, name, Named::Alias(ty))
+}
+
+fn is_main(name: &Name) -> bool
+    ensures { result ≡ spec.is_main name.now }
+{
+    name.text.bytes() == "main".as_bytes()
+}
+
+fn entry(alloc: Global, name: &Name, ty: Ty, body: Body) -> Result<Entry, OutOfMemory>
+    ensures { IfOk result (λ e. e ≡ spec.entry name.now ty body) }
+{
+    Ok(Entry {
+        name: Text::of_bytes(alloc, name.text.bytes())?,
+        result: ty.element,
+        body,
+    })
+}
+
+/// `main`, whose name wasn't visible.
+fn first_main(
+    alloc: Global,
+    typer: &mut Typer,
+    name: &Name,
+    ty: Ty,
+    block: &Block,
+) -> Result<Option<Entry>, OutOfMemory>
+    ensures { Yields (spec.first_main name.now ty block.now typer.old) result typer.new }
+{
+    declare(alloc, typer, name, Named::Function)?;
+    typer.refuse_if(is_struct(ty.element), 5, name.pos);
+    let body = main_block(alloc, typer, block.items.as_slice())?;
+    Ok(Some(entry(alloc, name, ty, body)?))
+}
+
+/// `main`, after what was `main` before it.
+#[tactic(auto, unfolding(crate::specs::Units::main))]
+fn main(
+    alloc: Global,
+    typer: &mut Typer,
+    ty: &Specifiers,
+    name: &Name,
+    block: &Block,
+    found: Option<Entry>,
+) -> Result<Option<Entry>, OutOfMemory>
+    ensures { Yields (spec.main ty.now name.now block.now found typer.old) result typer.new }
+{
+    let ty = plain_type(alloc, typer, ty)?;
+    if typer.names.contains(name.text.bytes()) {
+        typer.refuse(2, name.pos);
+        return Ok(found);
+    }
+    first_main(alloc, typer, name, ty, block)
+}
+
+/// An item, after what was `main` before it.
+#[tactic(auto, unfolding(crate::specs::Units::item))]
+fn item(
+    alloc: Global,
+    typer: &mut Typer,
+    item: &Item,
+    found: Option<Entry>,
+) -> Result<Option<Entry>, OutOfMemory>
+    ensures { Yields (spec.item item.now found typer.old) result typer.new }
+{
+    match item {
+        Item::Typedef(_, ty, name) => {
+            type_name(alloc, typer, ty, name)?;
+            Ok(found)
+        }
+        Item::Struct(_, body) => {
+            structure(alloc, typer, body)?;
+            Ok(found)
+        }
+        Item::Global(ty, declrs) => {
+            declare_globals(alloc, typer, ty, declrs.as_slice())?;
+            Ok(found)
+        }
+        Item::Proto(_, _, _) => Ok(found),
+        Item::Func(ty, name, _, block) => {
+            if is_main(name) {
+                main(alloc, typer, ty, name, block, found)
+            } else {
+                Ok(found)
+            }
+        }
+    }
+}
+
+#[tactic(auto, using(crate::proofs::Loops::loops))]
+fn items(alloc: Global, typer: &mut Typer, all: &[Item]) -> Result<Option<Entry>, OutOfMemory>
+    ensures { Yields (spec.items all.now None typer.old) result typer.new }
+{
+    let mut found = None;
+    for one in all {
+        found = item(alloc, typer, one, found)?;
+    }
+    Ok(found)
+}
+
+// ---- the whole
+
+fn blank(alloc: Global) -> Typer
+    ensures { result ≡ spec.blank }
+{
+    Typer {
+        names: Scope::new(alloc),
+        tags: Scope::new(alloc),
+        structs: Structs::new(alloc),
+        vars: Items::new(alloc),
+        inputs: Items::new(alloc),
+        thresholds: Items::new(alloc),
+        least: None,
+    }
+}
+
+fn refusal(fault: Fault) -> Refusal
+    ensures { result ≡ spec.refusal fault }
+{
+    Refusal {
+        code: Code::Typing(fault.rule),
+        pos: fault.pos,
+    }
+}
+
+fn is_result(num: Num) -> bool
+    ensures { result ≡ spec.is_result num }
+{
+    matches!(num, Num::I32)
+}
+
+fn is_entry_type(element: Element) -> bool
+    ensures { result ≡ spec.is_entry_type element }
+{
+    match element {
+        Element::Scalar(num) => is_result(num),
+        _ => true,
+    }
+}
+
+fn is_entry(entry: &Entry) -> bool
+    ensures { result ≡ spec.is_entry entry.now }
+{
+    entry.body.clock && is_entry_type(entry.result)
+}
+
+fn result_of(element: Element) -> Option<Num>
+    ensures { result ≡ spec.result_of element }
+{
+    match element {
+        Element::Scalar(num) => Some(num),
+        _ => None,
+    }
+}
+
+fn result_cells(num: Option<Num>) -> u64
+    ensures { result ≡ spec.result_cells num }
+{
+    match num {
+        None => 0,
+        Some(_) => 1,
+    }
+}
+
+fn function(alloc: Global, entry: Entry) -> Func
+    ensures { result ≡ spec.function entry }
+{
+    Func {
+        name: entry.name,
+        params: Items::new(alloc),
+        result: result_of(entry.result),
+        body: entry.body.stmts,
+    }
+}
+
+fn program(alloc: Global, typer: Typer, entry: Entry) -> Result<Program, OutOfMemory>
+    ensures { IfOk result (λ p. p ≡ spec.program typer entry) }
+{
+    let mut funcs = Items::new(alloc);
+    funcs.push(function(alloc, entry))?;
+    Ok(Program {
+        structs: typer.structs.into_defs(),
+        vars: typer.vars,
+        inputs: typer.inputs,
+        funcs,
+        entry: 0,
+        thresholds: typer.thresholds,
+    })
+}
+
+/// Whether there are no more cells than may be.
+#[tactic(auto, unfolding(crate::specs::Units::cells), using(crate::proofs::UnitLemmas::fits))]
+fn fits(typer: &Typer, entry: &Entry) -> bool
+    ensures { result ≡ nat_le (spec.cells typer.now entry.now) (limit_number Cells) }
+{
+    let cells = typer.structs.cells(typer.vars.as_slice());
+    cells.saturating_add(result_cells(result_of(entry.result))) <= Limit::Cells.number()
+}
+
+fn accept(alloc: Global, typer: Typer, entry: Entry) -> Result<Program, TypeFault>
+    ensures { Tells (spec.unless_refused typer.least typer entry) result }
+{
+    match typer.least {
+        Some(fault) => Err(TypeFault::Refused(refusal(fault))),
+        None => {
+            if fits(&typer, &entry) {
+                Ok(program(alloc, typer, entry)?)
+            } else {
+                Err(TypeFault::TooMany(Limit::Cells))
+            }
+        }
+    }
+}
+
+/// The answer at the end of the text.
+fn finish(alloc: Global, typer: Typer, entry: Option<Entry>, end: Pos) -> Result<Program, TypeFault>
+    ensures { Tells (spec.answer_by end entry typer) result }
+{
+    let missing = refusal(lesser(typer.least, Fault { pos: end, rule: 22 }));
+    match entry {
+        None => Err(TypeFault::Refused(missing)),
+        Some(entry) => {
+            if is_entry(&entry) {
+                accept(alloc, typer, entry)
+            } else {
+                Err(TypeFault::Refused(missing))
+            }
+        }
+    }
+}
+
+#[tactic(auto, unfolding(crate::specs::Units::answer))]
+fn answer(alloc: Global, unit: &Unit, end: Pos) -> Result<Program, TypeFault>
+    ensures { Tells (spec.answer unit.now end) result }
+{
+    let mut typer = blank(alloc);
+    let entry = items(alloc, &mut typer, unit.items.as_slice())?;
+    finish(alloc, typer, entry, end)
+}
+
+/// The typed program of a tree whose text ends there. It is refused by the least refusal of the text: the one with the least
+/// place, and of those the one with the least rule; where nothing is refused, by the limit of cells. `specs/` has the rules
+/// with their sources in ISO C.
+#[tactic(auto, using(crate::proofs::AnswerLemmas::told_accepted, crate::proofs::AnswerLemmas::told_refused))]
 pub fn type_unit(alloc: Global, unit: &Unit, end: Pos) -> Result<Program, TypeFault>
-    requires { IsBuilt unit.now }
-    ensures accepted { IfOk result (λ p. answer unit.now end ≡ Accepts p) }
-    ensures typed { IfOk result IsTyped }
-    ensures small { IfOk result (λ p. length (cells p) ≤ 65536) }
+    ensures accepted { IfOk result (λ p. spec.answer unit.now end ≡ Accepts p) }
     ensures refused { IfErr result (IsFault unit.now end) }
 {
-    Err(TypeFault::OutOfMemory)
+    answer(alloc, unit, end)
 }

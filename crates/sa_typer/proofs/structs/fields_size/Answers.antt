@@ -8,10 +8,10 @@ pub loop-field-preserved : goal.loop-field-preserved
 loop-field-preserved c = record {
   fits = c.saturating_add-total.type_inv;
   summed = λ exact e.
-    one_more c.loop-field.total c.saturating_add-total.result c.size_by.result (size_by c.args.starred exact c.field-item.result.shape) _ _ _
-    (c.size_by.ensures exact e) c.saturating_add-total.ensures
-    (rw (← c.field-item.is) at (sum_by-next c.args.starred exact c.args.fields.now c.loop-field.field-index c.field-item.result c.loop-field-test.true))
-    (c.loop-field.invariant.summed exact e);
+      one_more c.loop-field.total c.saturating_add-total.result c.size_by.result (size_by c.args.starred exact c.field-item.result.shape) _ _ _
+      (c.size_by.ensures exact e) c.saturating_add-total.ensures
+      (rw (← c.field-item.is) at (sum_by-next c.args.starred exact c.args.fields.now c.loop-field.field-index c.field-item.result c.loop-field-test.true))
+      (c.loop-field.invariant.summed exact e);
 }
 
 pub returns : goal.returns
