@@ -4,6 +4,8 @@
 #![tactic(auto)]
 
 mod assign;
+mod values;
 
 pub use assign::simple;
 pub use std::alloc::AllocError as OutOfMemory;
+pub use values::value;
