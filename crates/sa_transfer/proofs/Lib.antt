@@ -1,3 +1,5 @@
 pub mod FormLaws
 pub mod TypeLaws
 pub mod ListLaws
+pub mod StoreLaws
+pub mod FixedLaws

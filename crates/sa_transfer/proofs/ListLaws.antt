@@ -86,7 +86,7 @@ link_noted b p env ls i o l h is right value old new last whole r v e g w =
     (ap (λ (xs : List Alarm). old ++ noted b xs) (ap (λ (x : Option Span). link_alarms p env o l ++ alarms_after p env (drop (i + 1) ls) x) v ∙ sym (alarms_more p env ls i o l h is)) ∙ w)
 
 -- ---- steps
-then_with : (o : Option (List Reach)) (r : Option Reach) (more : Option (List Reach)) →
+pub then_with : (o : Option (List Reach)) (r : Option Reach) (more : Option (List Reach)) →
     then_reached o (alive_then r (λ r. option_map (λ rs. r ∷ rs) more)) ≡ then_reached (with_reach o r) more
 unfolding then_reached with_reach
 then_with None r more = refl
@@ -99,7 +99,7 @@ unfolding then_reached
 reached_first None = refl
 reached_first (Some rs) = refl
 
-reached_last : (o : Option (List Reach)) → then_reached o (Some []) ≡ o
+pub reached_last : (o : Option (List Reach)) → then_reached o (Some []) ≡ o
 unfolding then_reached
 reached_last None = refl
 reached_last (Some rs) = ap Some (append-nil rs)

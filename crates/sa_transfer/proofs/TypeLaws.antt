@@ -23,31 +23,16 @@ use Rattle.sa_typed.proofs.ArithmeticLaws.{num_facts}
 use Rattle.sa_typed.proofs.LinkLaws.{prefix_typed, cast_typed, chain_typed}
 use Rattle.sa_operators.specs.Operators.{IsIn, range_of}
 use Rattle.sa_operators.specs.OperatorLaws.{IsSmallSpan, Suits, SuitsRight}
-use Rattle.sa_operators.proofs.FitLaws.{types_are_small, conversions_cover, conversions_stay}
-use Rattle.sa_operators.proofs.OperatorCovers.{operators_cover, prefixes_cover}
-use Rattle.sa_operators.proofs.OperatorStays.{own_type_suits, unsigned_suits, operators_stay, prefixes_stay}
+use Rattle.sa_operators.proofs.FitLaws.{types_are_small}
 use Rattle.sa_reference.specs.declared.flat.Flat.{Flat}
 use Rattle.sa_reference.specs.Fair.{AreIn}
 use Rattle.sa_reference.specs.Sound.{IsWithin, widest, type_range}
 use Rattle.sa_reference.specs.Values.{input_span, span_of}
 use Rattle.sa_reference.proofs.Laws.{IfAlive}
-use Rattle.sa_reference.proofs.ValueLaws.{OperatorFacts, suits, suits_right}
+use Rattle.sa_reference.proofs.OperatorFacts.{operator_facts}
+use Rattle.sa_reference.proofs.ValueLaws.{suits, suits_right}
 use Rattle.sa_reference.proofs.ValueLaws as values
 use Rattle.sa_transfer.specs.Lists.{IsInIf, AreAfter, operand_span, next_span}
-
--- what is proved of operators and conversions
-pub operator_facts : OperatorFacts
-operator_facts = record {
-  small = types_are_small;
-  own = own_type_suits;
-  unsigned = unsigned_suits;
-  converts = conversions_cover;
-  operates = operators_cover;
-  prefixes = prefixes_cover;
-  conversions_stay = conversions_stay;
-  operators_stay = operators_stay;
-  prefixes_stay = prefixes_stay;
-}
 
 -- ---- inputs, where nothing is said of them
 get_map : (xs : List Input) (k : ℕ) (i : Input) → slice_get xs k ≡ Some i → slice_get (map type_range xs) k ≡ Some (type_range i)

@@ -4,6 +4,8 @@
 #![tactic(auto)]
 
 mod assign;
+mod cells;
+mod fixed;
 mod values;
 
 pub use assign::simple;

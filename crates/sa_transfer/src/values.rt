@@ -3,6 +3,7 @@
 ghost use Rattle.std.specs.Prelude.{◌≡◌, ◌++◌, pos, Some, IfOk, IfSome, OnOk, option_map};
 ghost use Rattle.std.specs.List.{All};
 ghost use Rattle.sa_interval.specs.Rows.{single, meet_of, is_part};
+ghost use Rattle.sa_typed.specs.Arithmetic.{result_type};
 ghost use Rattle.sa_typed.specs.Cells.{cells};
 ghost use Rattle.sa_typed.specs.WellTyped.{type_of, IsTypedExpr, IsTypedStep};
 ghost use Rattle.sa_operators.specs.Alarms.{noted};
@@ -32,7 +33,7 @@ use std::alloc::Global;
 // ---- operations, where an operand may be missing
 
 /// One number.
-fn single(n: u64) -> Interval
+pub fn single(n: u64) -> Interval
     ensures { result ≡ single (pos n) }
 {
     let n = i128::from(n);
@@ -74,6 +75,7 @@ pub fn converted(
     requires { IfSome value (λ s. IsSmallSpan s) }
     ensures value { IfOk result (λ o. o ≡ alive_then value (converted_span num)) }
     ensures alarms { OnOk result (alarms.new.items ≡ alarms.old.items ++ noted checking (with_one value (conversion_alarms num pos))) }
+    ensures in_type { IfOk result (λ o. IfSome o (λ s. IsIn num s)) }
 {
     match value {
         None => Ok(None),
@@ -99,6 +101,7 @@ pub fn operated(
     requires right { IfSome right (λ s. SuitsRight op num s) }
     ensures value { IfOk result (λ o. o ≡ linked op num left right) }
     ensures alarms { OnOk result (alarms.new.items ≡ alarms.old.items ++ noted checking (with_both left right (operator_alarms op pos num))) }
+    ensures in_type { IfOk result (λ o. IfSome o (λ s. IsIn (result_type op num) s)) }
 {
     match (left, right) {
         (Some(a), Some(b)) => {
@@ -182,7 +185,7 @@ fn index_reach(
 
 #[tactic(auto, unfolding(crate::specs::Lists::with_reach))]
 /// Steps with one more; None where one is missing.
-fn with_reach(
+pub fn with_reach(
     reaches: Option<Items<Reach>>,
     reach: Option<Reach>,
 ) -> Result<Option<Items<Reach>>, OutOfMemory>
@@ -354,7 +357,7 @@ pub fn named_cells(
 
 #[cycle(values)]
 /// The steps that an access may take, None where an index has no value.
-fn reached(
+pub fn reached(
     alloc: Global,
     program: &Program,
     ground: &Ground,
