@@ -1,5 +1,5 @@
 -- Each form of an expression, an access and a step, as code sees it: its span, its alarms, and what typing promises of its parts.
-use Rattle.std.proofs.Common.{◌≡◌, ℕ, pos, List, [], ◌∷◌, ◌++◌, refl, sym, ap, subst, ◌∙◌, Option, Some, None, append_assoc}
+use Rattle.std.proofs.Common.{◌≡◌, ℕ, pos, List, [], ◌∷◌, ◌++◌, refl, sym, ap, ◌∙◌, Option, Some, None, append_assoc}
 use Rattle.std.proofs.lemmas.List.Elements.{All-nil, All-cons, All-same}
 use Rattle.std.specs.List.{All}
 use Rattle.std.specs.Prelude.{option_map}
@@ -15,9 +15,7 @@ use Rattle.sa_typed.specs.declared.expr.Access.{Access, out-Access}
 use Rattle.sa_typed.specs.declared.expr.Expr.{Expr, Read', Chain', Row_of-Link, end_of-Link, more_of-Link, items-the_row-Link, items_hidden-the_row-Link-2, Row_of-Step, end_of-Step, more_of-Step, items-the_row-Step, items_hidden-the_row-Step-0}
 use Rattle.sa_typed.specs.declared.expr.Expr.TheVariants as v
 use Rattle.sa_typed.specs.declared.expr.Link.{Link}
-use Rattle.sa_typed.specs.declared.expr.Operator.{Operator}
 use Rattle.sa_typed.specs.declared.expr.Prefix.{Prefix}
-use Rattle.sa_typed.specs.declared.expr.Step.{Step}
 use Rattle.sa_typed.specs.declared.expr.Step.TheVariants as step
 use Rattle.sa_typed.specs.declared.program.Program.{Program}
 use Rattle.sa_operators.specs.Operators.{prefix_span, prefix_alarms, converted_span, conversion_alarms, operator_alarms}

@@ -3,3 +3,4 @@ pub mod TypeLaws
 pub mod ListLaws
 pub mod StoreLaws
 pub mod FixedLaws
+pub mod ChangeLaws

@@ -1,16 +1,16 @@
 -- Cells that are changed one after another, one step on and at the end; and that this is what the reference analysis does.
-use Rattle.std.proofs.Common.{◌≡◌, ℕ, zero, suc, ◌+◌, ◌<◌, ◌≤◌, Bool, true, false, List, [], ◌∷◌, ◌++◌, length, drop, get_or, refl, sym, ap, ◌∙◌, arith, Option, Some, None, append_assoc, append-nil}
+use Rattle.std.proofs.Common.{◌≡◌, ℕ, zero, suc, ◌+◌, ◌<◌, ◌≤◌, Bool, true, false, List, [], ◌∷◌, ◌++◌, length, drop, get_or, refl, sym, ap, ◌∙◌, arith, append_assoc, append-nil}
 use Rattle.std.proofs.lemmas.Bool.Decides.{nat_tests}
 use Rattle.std.proofs.lemmas.List.{drop_more, drop_all}
-use Rattle.std.specs.Prelude.{if◌then◌else◌, min, nat_le, slice_get}
+use Rattle.std.specs.Prelude.{if◌then◌else◌, min, nat_le}
 use Rattle.sa_interval.specs.Span.{Span}
 use Rattle.sa_interval.specs.Rows.{join_of}
-use Rattle.sa_typed.specs.Cells.{Cell, is_starred}
+use Rattle.sa_typed.specs.Cells.{Cell}
 use Rattle.sa_env.specs.Grounds.{stars}
-use Rattle.sa_reference.specs.Assignments.{starred_cell, starred_at, weakly, assigned, copied}
+use Rattle.sa_reference.specs.Assignments.{starred_at, weakly, assigned, copied}
 use Rattle.sa_reference.specs.Environments.{put}
 use Rattle.sa_reference.specs.Values.{cell_span}
-use Rattle.sa_transfer.specs.Lists.{or_starred, starred_in, stored, assigned_by, spans_at, copied_by}
+use Rattle.sa_transfer.specs.Lists.{starred_in, stored, assigned_by, spans_at, copied_by}
 
 -- ---- joins
 pub weakly_more : (ks : List ℕ) (i : ℕ) (s : Span) (spans : List Span) (d : ℕ) → i < length ks →

@@ -1,5 +1,5 @@
 -- Spans of typed expressions stay in their types, and suit the operators that take them.
-use Rattle.std.proofs.Common.{◌≡◌, ℕ, zero, suc, ◌^◌, ◌+◌, ◌<◌, ℤ, pos, ◌≤ℤ◌, arith, List, [], ◌∷◌, length, drop, get_or, map, refl, sym, ap, subst, ◌∙◌, Option, Some, None}
+use Rattle.std.proofs.Common.{◌≡◌, ℕ, zero, suc, ◌+◌, ◌<◌, ◌≤ℤ◌, arith, List, [], ◌∷◌, length, drop, get_or, map, sym, ap, subst, ◌∙◌, Option, Some, None}
 use Rattle.std.proofs.lemmas.Int.{ints}
 use Rattle.std.proofs.lemmas.List.{drop_more}
 use Rattle.std.specs.Prelude.{IsTrue, slice_get, IfSome}
@@ -9,7 +9,6 @@ use Rattle.sa_base.specs.declared.pos.Pos.{Pos}
 use Rattle.sa_interval.specs.Span.{Span}
 use Rattle.sa_typed.specs.Cells.{cells}
 use Rattle.sa_typed.specs.Evaluation.{Range}
-use Rattle.sa_typed.specs.Evaluation as concrete
 use Rattle.sa_typed.specs.Links.{IsTypedLink, type_after, AreTypedAfter}
 use Rattle.sa_typed.specs.WellTyped.{type_of, converts, right_converts, num_of_input, IsTypedExpr}
 use Rattle.sa_typed.specs.declared.expr.Expr.{Expr}
@@ -20,7 +19,7 @@ use Rattle.sa_typed.specs.declared.expr.Prefix.{Prefix}
 use Rattle.sa_typed.specs.declared.program.Input.{Input}
 use Rattle.sa_typed.specs.declared.program.Program.{Program}
 use Rattle.sa_typed.proofs.ArithmeticLaws.{num_facts}
-use Rattle.sa_typed.proofs.LinkLaws.{prefix_typed, cast_typed, chain_typed}
+use Rattle.sa_typed.proofs.LinkLaws.{prefix_typed, chain_typed}
 use Rattle.sa_operators.specs.Operators.{IsIn, range_of}
 use Rattle.sa_operators.specs.OperatorLaws.{IsSmallSpan, Suits, SuitsRight}
 use Rattle.sa_operators.proofs.FitLaws.{types_are_small}

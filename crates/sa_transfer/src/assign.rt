@@ -1,6 +1,6 @@
 //! Statements that change the store alone.
 
-ghost use Rattle.std.specs.Prelude.{◌≡◌, ◌++◌, Some, IfOk, IfSome, OnErr, OnOk};
+ghost use Rattle.std.specs.Prelude.{List, ◌≡◌, ◌++◌, Some, IfOk, IfSome, OnErr, OnOk};
 ghost use Rattle.sa_typed.specs.declared.shape.StructDef.{StructDef};
 ghost use Rattle.sa_typed.specs.Cells.{cells};
 ghost use Rattle.sa_typed.specs.Layouts.{leaf, shape_layout, layout_of, num_in};
@@ -28,7 +28,13 @@ use sqlite_items::Items;
 use std::alloc::Global;
 
 /// Assigns an interval to the cells that an access names, and answers whether both are there.
-fn assign_to(program: &Program, ground: &Ground, ks: Option<Items<usize>>, s: Option<Interval>, env: &mut Flat) -> bool
+fn assign_to(
+    program: &Program,
+    ground: &Ground,
+    ks: Option<Items<usize>>,
+    s: Option<Interval>,
+    env: &mut Flat,
+) -> bool
     requires ground { IsGround program.now ground.now }
     requires alike { AreAlike (cells program.now) ks s }
     requires spans { AreIn (cells program.now) env.old.cells }
@@ -48,7 +54,17 @@ fn assign_to(program: &Program, ground: &Ground, ks: Option<Items<usize>>, s: Op
 
 #[allow(clippy::too_many_arguments)]
 /// The value of an expression as it is assigned to a type.
-fn value_as(alloc: Global, program: &Program, ground: &Ground, env: &Flat, num: Num, pos: Pos, e: &Expr, checking: bool, alarms: &mut Vec<Alarm>) -> Result<Option<Interval>, OutOfMemory>
+fn value_as(
+    alloc: Global,
+    program: &Program,
+    ground: &Ground,
+    env: &Flat,
+    num: Num,
+    pos: Pos,
+    e: &Expr,
+    checking: bool,
+    alarms: &mut Vec<Alarm>,
+) -> Result<Option<Interval>, OutOfMemory>
     requires ground { IsGround program.now ground.now }
     requires typed { IsTypedExpr program.now e.now }
     requires spans { AreIn (cells program.now) env.now.cells }
@@ -63,7 +79,18 @@ fn value_as(alloc: Global, program: &Program, ground: &Ground, env: &Flat, num: 
 
 #[allow(clippy::too_many_arguments)]
 /// Assigns the value of an expression.
-fn assign(alloc: Global, program: &Program, ground: &Ground, access: &Access, num: Num, pos: Pos, e: &Expr, env: &mut Flat, checking: bool, alarms: &mut Vec<Alarm>) -> Result<bool, OutOfMemory>
+fn assign(
+    alloc: Global,
+    program: &Program,
+    ground: &Ground,
+    access: &Access,
+    num: Num,
+    pos: Pos,
+    e: &Expr,
+    env: &mut Flat,
+    checking: bool,
+    alarms: &mut Vec<Alarm>,
+) -> Result<bool, OutOfMemory>
     requires ground { IsGround program.now ground.now }
     requires access { IsTypedAccess program.now (leaf num) access.now }
     requires typed { IsTypedExpr program.now e.now }
@@ -82,7 +109,20 @@ fn assign(alloc: Global, program: &Program, ground: &Ground, access: &Access, nu
 
 #[allow(clippy::too_many_arguments)]
 /// What a compound assignment makes of the number that was read, as it is assigned to its type.
-fn compound_value(alloc: Global, program: &Program, ground: &Ground, env: &Flat, left: Option<Interval>, num: Num, op: Operator, pos: Pos, work: Num, e: &Expr, checking: bool, alarms: &mut Vec<Alarm>) -> Result<Option<Interval>, OutOfMemory>
+fn compound_value(
+    alloc: Global,
+    program: &Program,
+    ground: &Ground,
+    env: &Flat,
+    left: Option<Interval>,
+    num: Num,
+    op: Operator,
+    pos: Pos,
+    work: Num,
+    e: &Expr,
+    checking: bool,
+    alarms: &mut Vec<Alarm>,
+) -> Result<Option<Interval>, OutOfMemory>
     requires ground { IsGround program.now ground.now }
     requires left { IfSome left (λ s. IsIn num s) }
     requires typed { IsTypedExpr program.now e.now }
@@ -100,8 +140,22 @@ fn compound_value(alloc: Global, program: &Program, ground: &Ground, env: &Flat,
 }
 
 #[allow(clippy::too_many_arguments)]
+#[tactic(auto, unfolding(sa_reference::specs::Assignments::simple_of, sa_reference::specs::Assignments::simple_alarms))]
 /// Assigns what an operator makes of the number at the place and of the value of an expression. The place is read once.
-fn compound(alloc: Global, program: &Program, ground: &Ground, access: &Access, num: Num, op: Operator, pos: Pos, work: Num, e: &Expr, env: &mut Flat, checking: bool, alarms: &mut Vec<Alarm>) -> Result<bool, OutOfMemory>
+fn compound(
+    alloc: Global,
+    program: &Program,
+    ground: &Ground,
+    access: &Access,
+    num: Num,
+    op: Operator,
+    pos: Pos,
+    work: Num,
+    e: &Expr,
+    env: &mut Flat,
+    checking: bool,
+    alarms: &mut Vec<Alarm>,
+) -> Result<bool, OutOfMemory>
     requires ground { IsGround program.now ground.now }
     requires access { IsTypedAccess program.now (leaf num) access.now }
     requires typed { IsTypedExpr program.now e.now }
@@ -114,10 +168,13 @@ fn compound(alloc: Global, program: &Program, ground: &Ground, access: &Access, 
 {
     let ks = named_cells(alloc, program, ground, env, access, checking, alarms)?;
     let left = read_of(env.cells.as_slice(), &ks);
-    let s = compound_value(alloc, program, ground, env, left, num, op, pos, work, e, checking, alarms)?;
+    let s = compound_value(
+        alloc, program, ground, env, left, num, op, pos, work, e, checking, alarms,
+    )?;
     Ok(assign_to(program, ground, ks, s, env))
 }
 
+#[tactic(auto, using(crate::proofs::ChangeLaws::of_shapes))]
 /// The type of a scalar, and int for what isn't one.
 fn shape_num(shape: &Shape) -> Num
     ensures { (structs : List StructDef) → result ≡ num_in (shape_layout structs shape.now) }
@@ -128,6 +185,7 @@ fn shape_num(shape: &Shape) -> Num
     }
 }
 
+#[tactic(auto, unfolding(sa_typed::specs::Layouts::layout_of))]
 /// The type of a variable.
 fn var_num(program: &Program, var: u32) -> Num
     ensures { result ≡ num_in (layout_of program.now var) }
@@ -139,8 +197,19 @@ fn var_num(program: &Program, var: u32) -> Num
 }
 
 #[allow(clippy::too_many_arguments)]
+#[tactic(auto, unfolding(sa_reference::specs::Assignments::declare_of, sa_reference::specs::Assignments::declare_alarms))]
 /// A local at its declaration with the value of an expression.
-fn declare_value(alloc: Global, program: &Program, ground: &Ground, var: u32, pos: Pos, e: &Expr, env: &mut Flat, checking: bool, alarms: &mut Vec<Alarm>) -> Result<bool, OutOfMemory>
+fn declare_value(
+    alloc: Global,
+    program: &Program,
+    ground: &Ground,
+    var: u32,
+    pos: Pos,
+    e: &Expr,
+    env: &mut Flat,
+    checking: bool,
+    alarms: &mut Vec<Alarm>,
+) -> Result<bool, OutOfMemory>
     requires ground { IsGround program.now ground.now }
     requires typed { IsTypedStart program.now var (Start.Value pos e.now) }
     requires spans { AreIn (cells program.now) env.old.cells }
@@ -149,14 +218,34 @@ fn declare_value(alloc: Global, program: &Program, ground: &Ground, var: u32, po
     ensures kept { AreIn (cells program.now) env.new.cells }
     ensures clock { env.new.clock ≡ env.old.clock }
 {
-    let s = value_as(alloc, program, ground, env, var_num(program, var), pos, e, checking, alarms)?;
+    let s = value_as(
+        alloc,
+        program,
+        ground,
+        env,
+        var_num(program, var),
+        pos,
+        e,
+        checking,
+        alarms,
+    )?;
     let ks = named(alloc, program, ground, var, &[])?;
     Ok(assign_to(program, ground, Some(Items::from_vec(ks)), s, env))
 }
 
 #[allow(clippy::too_many_arguments)]
+#[tactic(auto, using(sa_operators::proofs::CodeLaws::noted_nothing), unfolding(sa_reference::specs::Assignments::declare_of, sa_reference::specs::Assignments::declare_alarms))]
 /// A local at its declaration.
-fn declare(alloc: Global, program: &Program, ground: &Ground, var: u32, start: &Start, env: &mut Flat, checking: bool, alarms: &mut Vec<Alarm>) -> Result<bool, OutOfMemory>
+fn declare(
+    alloc: Global,
+    program: &Program,
+    ground: &Ground,
+    var: u32,
+    start: &Start,
+    env: &mut Flat,
+    checking: bool,
+    alarms: &mut Vec<Alarm>,
+) -> Result<bool, OutOfMemory>
     requires ground { IsGround program.now ground.now }
     requires typed { IsTyped program.now }
     requires start { IsTypedStart program.now var start.now }
@@ -171,7 +260,9 @@ fn declare(alloc: Global, program: &Program, ground: &Ground, var: u32, start: &
             set_ranges(alloc, program, ground, var, &mut env.cells)?;
             Ok(true)
         }
-        Start::Value(pos, e) => declare_value(alloc, program, ground, var, *pos, e, env, checking, alarms),
+        Start::Value(pos, e) => declare_value(
+            alloc, program, ground, var, *pos, e, env, checking, alarms,
+        ),
         Start::Items => {
             set_items(alloc, program, ground, var, &mut env.cells)?;
             Ok(true)
@@ -179,21 +270,45 @@ fn declare(alloc: Global, program: &Program, ground: &Ground, var: u32, start: &
     }
 }
 
+#[tactic(auto, using(crate::proofs::FormLaws::alarms_reached), unfolding(sa_operators::specs::Alarms::noted))]
 /// Notes the alarms of the indices of an access.
-fn note_indices(alloc: Global, program: &Program, ground: &Ground, env: &Flat, access: &Access, checking: bool, alarms: &mut Vec<Alarm>) -> Result<(), OutOfMemory>
+fn note_indices(
+    alloc: Global,
+    program: &Program,
+    ground: &Ground,
+    env: &Flat,
+    access: &Access,
+    checking: bool,
+    alarms: &mut Vec<Alarm>,
+) -> Result<(), OutOfMemory>
     requires ground { IsGround program.now ground.now }
     requires typed { HasTypedSteps program.now access.now }
     requires spans { AreIn (cells program.now) env.now.cells }
     ensures { OnOk result (alarms.new.items ≡ alarms.old.items ++ noted checking (access_alarms program.now (widest program.now) env.now access.now)) }
 {
     if checking {
-        reached(alloc, program, ground, env, access.steps.as_slice(), true, alarms)?;
+        reached(
+            alloc,
+            program,
+            ground,
+            env,
+            access.steps.as_slice(),
+            true,
+            alarms,
+        )?;
     }
     Ok(())
 }
 
 /// Assigns to the cells of one structure what those of another were before.
-fn copy_cells(alloc: Global, program: &Program, ground: &Ground, ks: &[usize], ds: &[usize], spans: &mut Items<Interval>) -> Result<(), OutOfMemory>
+fn copy_cells(
+    alloc: Global,
+    program: &Program,
+    ground: &Ground,
+    ks: &[usize],
+    ds: &[usize],
+    spans: &mut Items<Interval>,
+) -> Result<(), OutOfMemory>
     requires ground { IsGround program.now ground.now }
     ensures ok { OnOk result (spans.new ≡ copied (cells program.now) ks.now ds.now spans.old spans.old) }
     ensures err { OnErr result (spans.new ≡ spans.old) }
@@ -204,7 +319,14 @@ fn copy_cells(alloc: Global, program: &Program, ground: &Ground, ks: &[usize], d
 }
 
 /// Copies one structure to another, and answers whether both places are there.
-fn copy_to(alloc: Global, program: &Program, ground: &Ground, to: &Access, from: &Access, env: &mut Flat) -> Result<bool, OutOfMemory>
+fn copy_to(
+    alloc: Global,
+    program: &Program,
+    ground: &Ground,
+    to: &Access,
+    from: &Access,
+    env: &mut Flat,
+) -> Result<bool, OutOfMemory>
     requires ground { IsGround program.now ground.now }
     requires typed { IsCopy program.now to.now from.now }
     requires spans { AreIn (cells program.now) env.old.cells }
@@ -216,7 +338,14 @@ fn copy_to(alloc: Global, program: &Program, ground: &Ground, to: &Access, from:
     let ds = fixed_cells(alloc, program, ground, from)?;
     match (ks, ds) {
         (Some(ks), Some(ds)) => {
-            copy_cells(alloc, program, ground, ks.as_slice(), ds.as_slice(), &mut env.cells)?;
+            copy_cells(
+                alloc,
+                program,
+                ground,
+                ks.as_slice(),
+                ds.as_slice(),
+                &mut env.cells,
+            )?;
             Ok(true)
         }
         (Some(_), None) => Ok(false),
@@ -226,7 +355,16 @@ fn copy_to(alloc: Global, program: &Program, ground: &Ground, to: &Access, from:
 
 #[allow(clippy::too_many_arguments)]
 /// Assigns one structure to another.
-fn copy(alloc: Global, program: &Program, ground: &Ground, to: &Access, from: &Access, env: &mut Flat, checking: bool, alarms: &mut Vec<Alarm>) -> Result<bool, OutOfMemory>
+fn copy(
+    alloc: Global,
+    program: &Program,
+    ground: &Ground,
+    to: &Access,
+    from: &Access,
+    env: &mut Flat,
+    checking: bool,
+    alarms: &mut Vec<Alarm>,
+) -> Result<bool, OutOfMemory>
     requires ground { IsGround program.now ground.now }
     requires typed { IsCopy program.now to.now from.now }
     requires spans { AreIn (cells program.now) env.old.cells }
@@ -243,7 +381,15 @@ fn copy(alloc: Global, program: &Program, ground: &Ground, to: &Access, from: &A
 
 #[tactic(auto, unfolding(sa_reference::specs::Assignments::simple_of, sa_reference::specs::Assignments::simple_alarms))]
 /// Walks a statement, and answers whether its end is reached alive. In checking mode the alarms go to the end of `alarms`.
-pub fn simple(alloc: Global, program: &Program, ground: &Ground, stmt: &Simple, env: &mut Flat, checking: bool, alarms: &mut Vec<Alarm>) -> Result<bool, OutOfMemory>
+pub fn simple(
+    alloc: Global,
+    program: &Program,
+    ground: &Ground,
+    stmt: &Simple,
+    env: &mut Flat,
+    checking: bool,
+    alarms: &mut Vec<Alarm>,
+) -> Result<bool, OutOfMemory>
     requires ground { IsGround program.now ground.now }
     requires typed { IsTyped program.now }
     requires stmt { IsTypedSimple program.now stmt.now }
@@ -254,9 +400,17 @@ pub fn simple(alloc: Global, program: &Program, ground: &Ground, stmt: &Simple, 
     ensures clock { env.new.clock ≡ env.old.clock }
 {
     match stmt {
-        Simple::Declare(var, start) => declare(alloc, program, ground, *var, start, env, checking, alarms),
-        Simple::Assign(access, num, pos, e) => assign(alloc, program, ground, access, *num, *pos, e, env, checking, alarms),
-        Simple::Compound(access, num, op, pos, work, e) => compound(alloc, program, ground, access, *num, *op, *pos, *work, e, env, checking, alarms),
-        Simple::Copy(_, to, _, from) => copy(alloc, program, ground, to, from, env, checking, alarms),
+        Simple::Declare(var, start) => declare(
+            alloc, program, ground, *var, start, env, checking, alarms,
+        ),
+        Simple::Assign(access, num, pos, e) => assign(
+            alloc, program, ground, access, *num, *pos, e, env, checking, alarms,
+        ),
+        Simple::Compound(access, num, op, pos, work, e) => compound(
+            alloc, program, ground, access, *num, *op, *pos, *work, e, env, checking, alarms,
+        ),
+        Simple::Copy(_, to, _, from) => copy(
+            alloc, program, ground, to, from, env, checking, alarms,
+        ),
     }
 }

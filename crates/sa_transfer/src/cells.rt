@@ -84,7 +84,11 @@ pub fn assign_by(starred: &[bool], spans: &mut Items<Interval>, ks: &[usize], s:
 
 #[tactic(auto, using(crate::proofs::StoreLaws::of_spans))]
 /// The intervals of the cells.
-pub fn spans_at(alloc: Global, spans: &[Interval], ks: &[usize]) -> Result<Vec<Interval>, OutOfMemory>
+pub fn spans_at(
+    alloc: Global,
+    spans: &[Interval],
+    ks: &[usize],
+) -> Result<Vec<Interval>, OutOfMemory>
     ensures { IfOk result (λ all. all.items ≡ spans_at spans.now ks.now) }
 {
     let mut all = Vec::new(alloc);

@@ -50,7 +50,12 @@ fn fixed_reached(alloc: Global, steps: &[Step]) -> Result<Option<Items<Reach>>, 
 
 #[tactic(auto, using(crate::proofs::FixedLaws::of_accesses))]
 /// The numbers of the cells that an access names, None where an index errs or names no element.
-pub fn fixed_cells(alloc: Global, program: &Program, ground: &Ground, access: &Access) -> Result<Option<Items<usize>>, OutOfMemory>
+pub fn fixed_cells(
+    alloc: Global,
+    program: &Program,
+    ground: &Ground,
+    access: &Access,
+) -> Result<Option<Items<usize>>, OutOfMemory>
     requires ground { IsGround program.now ground.now }
     requires typed { HasTypedSteps program.now access.now }
     ensures { IfOk result (λ o. o ≡ fixed_access_cells program.now access.now) }

@@ -1,4 +1,4 @@
-use Rattle.std.proofs.Common.{◌≡◌, ◌<◌, ◌≤◌, ◌∙◌, sym, arith, ◌+◌, length, drop, get_or, ap}
+use Rattle.std.proofs.Common.{◌<◌, ◌≤◌, ◌∙◌, sym, arith, ◌+◌, length, drop, get_or, ap}
 use Rattle.std.specs.Prelude.{min}
 use Rattle.sa_interval.specs.Span.{Span}
 use Rattle.sa_reference.specs.Environments.{put}

@@ -1,4 +1,4 @@
-use Rattle.std.proofs.Common.{◌≡◌, ◌∙◌, ap, List, [], ◌∷◌, ◌++◌}
+use Rattle.std.proofs.Common.{◌∙◌, ap, [], ◌∷◌, ◌++◌}
 use Rattle.sa_interval.specs.Span.{Span}
 use Rattle.sa_transfer.proofs.StoreLaws.{spans_more, spans_end}
 use Rattle.sa_transfer.proofs.cells.spans_at.Goals as goal

@@ -1,4 +1,4 @@
-use Rattle.std.proofs.Common.{rules, ◌≡◌, ◌∙◌, sym, ap}
+use Rattle.std.proofs.Common.{◌≡◌, ◌∙◌, sym, ap}
 use Rattle.sa_reference.specs.Values.{fixed_reach}
 use Rattle.sa_transfer.specs.Lists.{with_reach}
 use Rattle.sa_transfer.proofs.FixedLaws.{fixed_more, fixed_end}

@@ -1,5 +1,4 @@
 use Rattle.std.proofs.Common.{rules, arith, ◌≡◌, ◌∙◌, refl, sym, ap, Option}
-use Rattle.std.proofs.lemmas.Grind.{common_steps}
 use Rattle.std.proofs.lemmas.Result.{on_ok_weaker}
 use Rattle.sa_interval.specs.Span.{Span}
 use Rattle.sa_typed.specs.declared.expr.Expr.{the_lemmas}
@@ -8,8 +7,8 @@ use Rattle.sa_reference.specs.Sound.{widest}
 use Rattle.sa_reference.specs.Values.{linked, reach_of, step_alarms}
 use Rattle.sa_transfer.specs.Lists.{next_span, with_reach}
 use Rattle.sa_typed.proofs.LinkLaws.{prefix_typed, cast_typed, chain_typed}
-use Rattle.sa_transfer.proofs.FormLaws.{of_forms, cells_reached, alarms_reached, span_number, span_read, span_input, span_prefix, span_cast, span_chain, alarms_number, alarms_read, alarms_input, alarms_prefix, alarms_cast, alarms_chain, reach_at, reach_field, alarms_at, alarms_field, access_steps, read_typed, index_typed}
-use Rattle.sa_transfer.proofs.ListLaws.{nothing_noted, two_noted, two_parts, one_more, none_more, link_noted, span_more, alarms_more, span_end, alarms_end, reached_first, reached_more, indices_more, reached_end, indices_end}
+use Rattle.sa_transfer.proofs.FormLaws.{span_input, alarms_prefix, alarms_cast, alarms_chain, alarms_at, access_steps, read_typed, index_typed}
+use Rattle.sa_transfer.proofs.ListLaws.{two_parts, one_more, none_more, link_noted, span_more, span_end, alarms_end, reached_first, reached_more, indices_more, reached_end, indices_end}
 use Rattle.sa_transfer.proofs.TypeLaws.{input_is, prefix_suits, expr_small, chain_after, link_typed, link_left, link_right, after_more}
 use Rattle.sa_transfer.proofs.values.+values.Goals as goal
 
