@@ -151,8 +151,4 @@ pub joined_end : (spans : List Span) (ks : List ℕ) (i : ℕ) (o : Option Span)
 unfolding then_joined joined
 joined_end spans ks i o h = ap (λ (xs : List ℕ). then_joined o (joined spans xs)) (drop_all i ks h)
 
-pub ruleset of_links = (span_more, alarms_more, span_end, alarms_end)
-
-pub ruleset of_steps = (reached_first, reached_more, indices_more, reached_end, indices_end)
-
 pub ruleset of_joined = (joined_first, joined_more, joined_end)

@@ -132,5 +132,3 @@ module _ (p : Program) (env : Flat) (fair : AreIn (cells p) env.cells) (o : Opti
       alive : (num : Num) (o : Option Span) → IsInIf num o → IfAlive (λ s. IsIn num s) o
       alive num None h = tt
       alive num (Some s) h = h
-
-pub ruleset of_types = (input_is, span_in)

@@ -135,8 +135,8 @@ fn compound_value(
     ensures in_type { IfOk result (λ o. IfSome o (λ s. IsIn num s)) }
 {
     let right = value(alloc, program, ground, env, e, checking, alarms)?;
-    let s = operated(op, pos, work, left, right, checking, alarms)?;
-    converted(num, pos, s, checking, alarms)
+    let result = operated(op, pos, work, left, right, checking, alarms)?;
+    converted(num, pos, result, checking, alarms)
 }
 
 #[allow(clippy::too_many_arguments)]

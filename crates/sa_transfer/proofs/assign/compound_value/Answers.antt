@@ -11,8 +11,8 @@ pub operated-requires-clause-right : goal.operated-requires-clause-right
 operated-requires-clause-right c = compound_right c.args.op c.args.num c.args.work c.args.e.now c.in_ok-right.right c.requires.link c.in_ok-right.ensures.in_type
 
 pub converted-requires : goal.converted-requires
-converted-requires c = some_small _ c.in_ok-s.s c.in_ok-s.ensures.in_type
+converted-requires c = some_small _ c.in_ok-result.result c.in_ok-result.ensures.in_type
 
 pub returns-clause-alarms : goal.returns-clause-alarms
 returns-clause-alarms c =
-    on_ok_weaker c.converted.result (λ h. two_parts _ _ _ _ _ _ _ c.in_ok-right.ensures.alarms (two_noted _ _ _ _ _ _ c.in_ok-s.ensures.alarms h) (search rules)) c.converted.ensures.alarms
+    on_ok_weaker c.converted.result (λ h. two_parts _ _ _ _ _ _ _ c.in_ok-right.ensures.alarms (two_noted _ _ _ _ _ _ c.in_ok-result.ensures.alarms h) (search rules)) c.converted.ensures.alarms
