@@ -117,8 +117,10 @@ uncut s n z e l w =
     apart true q e = cc
     apart false true e = cc
     apart false false e = (refl, refl)
+
     above_low : (x : ℤ) → int_eq x low_limit ≡ false → low_limit ≤ℤ x → low_limit <ℤ x
     above_low x e h = grind (arith, ints)
+
     below_high : (x : ℤ) → int_eq x high_limit ≡ false → x ≤ℤ high_limit → x <ℤ high_limit
     below_high x e h = grind (arith, ints)
 

@@ -203,6 +203,7 @@ remainders_cover num p a b x y i order of v w =
   where
     first : List Alarm
     first = alarm_if (may_be b (pos 0)) p Division
+
     last : List Alarm
     last = alarm_if (is_signed num && (may_be a (num_lo num) && may_be b (negsuc 0))) p Overflow
 

@@ -46,7 +46,11 @@ pub fn as_span(num: Num, s: Interval) -> Interval
 fn in_type_span(num: Num, s: Interval) -> Option<Interval>
     ensures { result ≡ in_type_span num s }
 {
-    if is_signed(num) { s.meet(range_of(num)) } else { Some(wrap(num, s)) }
+    if is_signed(num) {
+        s.meet(range_of(num))
+    } else {
+        Some(wrap(num, s))
+    }
 }
 
 /// Numbers converted by a cast or an assignment (ISO C 6.3.1.3). It covers the conversion of numbers.
@@ -61,7 +65,13 @@ pub fn converted_span(num: Num, s: Interval) -> Option<Interval>
 
 #[tactic(auto, unfolding(crate::specs::Alarms::noted))]
 /// Adds the alarm where there may be an error; in iteration nothing is added.
-fn note_if(checking: bool, may: bool, pos: Pos, kind: Kind, alarms: &mut Vec<Alarm>) -> Result<(), OutOfMemory>
+fn note_if(
+    checking: bool,
+    may: bool,
+    pos: Pos,
+    kind: Kind,
+    alarms: &mut Vec<Alarm>,
+) -> Result<(), OutOfMemory>
     ensures { OnOk result (alarms.new.items ≡ alarms.old.items ++ noted checking (alarm_if may pos kind)) }
 {
     if checking && may {
@@ -79,14 +89,27 @@ fn may_not_fit(num: Num, s: Interval) -> bool
 
 #[tactic(auto, unfolding(crate::specs::Operators::fit_alarms))]
 /// Adds the alarm where a signed type may not hold a number.
-fn note_fit(checking: bool, num: Num, pos: Pos, kind: Kind, s: Interval, alarms: &mut Vec<Alarm>) -> Result<(), OutOfMemory>
+fn note_fit(
+    checking: bool,
+    num: Num,
+    pos: Pos,
+    kind: Kind,
+    s: Interval,
+    alarms: &mut Vec<Alarm>,
+) -> Result<(), OutOfMemory>
     ensures { OnOk result (alarms.new.items ≡ alarms.old.items ++ noted checking (fit_alarms num pos kind s)) }
 {
     note_if(checking, may_not_fit(num, s), pos, kind, alarms)
 }
 
 /// Adds the alarm of a conversion by a cast or an assignment.
-pub fn note_conversion(checking: bool, num: Num, pos: Pos, s: Interval, alarms: &mut Vec<Alarm>) -> Result<(), OutOfMemory>
+pub fn note_conversion(
+    checking: bool,
+    num: Num,
+    pos: Pos,
+    s: Interval,
+    alarms: &mut Vec<Alarm>,
+) -> Result<(), OutOfMemory>
     ensures { OnOk result (alarms.new.items ≡ alarms.old.items ++ noted checking (conversion_alarms num pos s)) }
 {
     note_fit(checking, num, pos, Kind::Conversion, s, alarms)
@@ -118,7 +141,14 @@ fn single(z: i128) -> Interval
 
 #[tactic(auto, using(crate::proofs::CodeLaws::noted_nothing))]
 /// The alarm of a result that is there.
-fn note_fit_if(checking: bool, num: Num, pos: Pos, kind: Kind, s: Option<Interval>, alarms: &mut Vec<Alarm>) -> Result<(), OutOfMemory>
+fn note_fit_if(
+    checking: bool,
+    num: Num,
+    pos: Pos,
+    kind: Kind,
+    s: Option<Interval>,
+    alarms: &mut Vec<Alarm>,
+) -> Result<(), OutOfMemory>
     ensures { OnOk result (alarms.new.items ≡ alarms.old.items ++ noted checking (fit_alarms_if num pos kind s)) }
 {
     match s {
@@ -129,7 +159,14 @@ fn note_fit_if(checking: bool, num: Num, pos: Pos, kind: Kind, s: Option<Interva
 
 #[tactic(auto, using(crate::proofs::CodeLaws::noted_append), unfolding(crate::specs::Operators::quotient_alarms))]
 /// The alarms of a quotient of two intervals of the type.
-fn note_quotient(checking: bool, num: Num, pos: Pos, a: Interval, b: Interval, alarms: &mut Vec<Alarm>) -> Result<(), OutOfMemory>
+fn note_quotient(
+    checking: bool,
+    num: Num,
+    pos: Pos,
+    a: Interval,
+    b: Interval,
+    alarms: &mut Vec<Alarm>,
+) -> Result<(), OutOfMemory>
     ensures { OnOk result (alarms.new.items ≡ alarms.old.items ++ noted checking (quotient_alarms num pos a b)) }
 {
     note_if(checking, may_be(b, 0), pos, Kind::Division, alarms)?;
@@ -145,11 +182,24 @@ fn may_divide_least(num: Num, a: Interval, b: Interval) -> bool
 
 #[tactic(auto, using(crate::proofs::CodeLaws::noted_append), unfolding(crate::specs::Operators::remainder_alarms))]
 /// The alarms of a remainder of two intervals of the type.
-fn note_remainder(checking: bool, num: Num, pos: Pos, a: Interval, b: Interval, alarms: &mut Vec<Alarm>) -> Result<(), OutOfMemory>
+fn note_remainder(
+    checking: bool,
+    num: Num,
+    pos: Pos,
+    a: Interval,
+    b: Interval,
+    alarms: &mut Vec<Alarm>,
+) -> Result<(), OutOfMemory>
     ensures { OnOk result (alarms.new.items ≡ alarms.old.items ++ noted checking (remainder_alarms num pos a b)) }
 {
     note_if(checking, may_be(b, 0), pos, Kind::Division, alarms)?;
-    note_if(checking, may_divide_least(num, a, b), pos, Kind::Overflow, alarms)
+    note_if(
+        checking,
+        may_divide_least(num, a, b),
+        pos,
+        Kind::Overflow,
+        alarms,
+    )
 }
 
 /// The counts of bits by which a number of the type may be shifted.
@@ -181,7 +231,11 @@ fn shiftable(num: Num, a: Interval) -> Option<Interval>
     ensures value { result ≡ shiftable num a }
     ensures small { IfSome result (λ m. IsPart m (record { lo = pos 0; hi = pos (2 ^ 64 - 1) })) }
 {
-    if is_signed(num) { a.meet(not_below_zero(num)) } else { Some(a) }
+    if is_signed(num) {
+        a.meet(not_below_zero(num))
+    } else {
+        Some(a)
+    }
 }
 
 #[tactic(auto, unfolding(crate::specs::Operators::left_shifts))]
@@ -428,19 +482,54 @@ pub fn operator_span(op: Operator, num: Num, a: Interval, b: Interval) -> Option
 #[tactic(auto, using(crate::proofs::CodeLaws::noted_nothing), unfolding(crate::specs::Operators::operator_alarms))]
 /// Adds the alarms of an operator that works in the type, of two intervals, which aren't converted to it yet; in iteration
 /// nothing is added.
-pub fn note_operator(checking: bool, op: Operator, pos: Pos, num: Num, a: Interval, b: Interval, alarms: &mut Vec<Alarm>) -> Result<(), OutOfMemory>
+pub fn note_operator(
+    checking: bool,
+    op: Operator,
+    pos: Pos,
+    num: Num,
+    a: Interval,
+    b: Interval,
+    alarms: &mut Vec<Alarm>,
+) -> Result<(), OutOfMemory>
     requires left { Suits num a }
     requires right { SuitsRight op num b }
     ensures { OnOk result (alarms.new.items ≡ alarms.old.items ++ noted checking (operator_alarms op pos num a b)) }
 {
     let a = operand(num, a);
     match op {
-        Operator::Plus => note_fit(checking, num, pos, Kind::Overflow, a.add(operand(num, b)), alarms),
-        Operator::Minus => note_fit(checking, num, pos, Kind::Overflow, a.sub(operand(num, b)), alarms),
-        Operator::Times => note_fit(checking, num, pos, Kind::Overflow, a.mul(operand(num, b)), alarms),
+        Operator::Plus => note_fit(
+            checking,
+            num,
+            pos,
+            Kind::Overflow,
+            a.add(operand(num, b)),
+            alarms,
+        ),
+        Operator::Minus => note_fit(
+            checking,
+            num,
+            pos,
+            Kind::Overflow,
+            a.sub(operand(num, b)),
+            alarms,
+        ),
+        Operator::Times => note_fit(
+            checking,
+            num,
+            pos,
+            Kind::Overflow,
+            a.mul(operand(num, b)),
+            alarms,
+        ),
         Operator::Divide => note_quotient(checking, num, pos, a, operand(num, b), alarms),
         Operator::Remainder => note_remainder(checking, num, pos, a, operand(num, b), alarms),
-        Operator::ShiftLeft => note_if(checking, left_shift_errs(num, a, b), pos, Kind::Shift, alarms),
+        Operator::ShiftLeft => note_if(
+            checking,
+            left_shift_errs(num, a, b),
+            pos,
+            Kind::Shift,
+            alarms,
+        ),
         Operator::ShiftRight => note_if(checking, count_errs(num, b), pos, Kind::Shift, alarms),
         Operator::BitAnd
         | Operator::BitXor
@@ -482,13 +571,27 @@ pub fn prefix_span(op: Prefix, num: Num, a: Interval) -> Option<Interval>
 
 #[tactic(auto, using(crate::proofs::CodeLaws::noted_nothing), unfolding(crate::specs::Operators::prefix_alarms))]
 /// Adds the alarms of an operator before its operand; in iteration nothing is added.
-pub fn note_prefix(checking: bool, op: Prefix, pos: Pos, num: Num, a: Interval, alarms: &mut Vec<Alarm>) -> Result<(), OutOfMemory>
+pub fn note_prefix(
+    checking: bool,
+    op: Prefix,
+    pos: Pos,
+    num: Num,
+    a: Interval,
+    alarms: &mut Vec<Alarm>,
+) -> Result<(), OutOfMemory>
     requires { Suits num a }
     ensures { OnOk result (alarms.new.items ≡ alarms.old.items ++ noted checking (prefix_alarms op pos num a)) }
 {
     let a = operand(num, a);
     match op {
-        Prefix::Minus => note_fit(checking, num, pos, Kind::Overflow, negated_span(num, a), alarms),
+        Prefix::Minus => note_fit(
+            checking,
+            num,
+            pos,
+            Kind::Overflow,
+            negated_span(num, a),
+            alarms,
+        ),
         Prefix::Plus | Prefix::Complement | Prefix::Not => Ok(()),
     }
 }

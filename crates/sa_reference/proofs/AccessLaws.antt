@@ -174,4 +174,3 @@ module _ (p : Program) (w : Setting) (F : OperatorFacts) (within : IsWithin p w)
   led (Prefix' op q k n a) num t tape = absurd t
   led (Cast' q k n a) num t tape = absurd t
   led (Chain' n a m ls) num t tape = absurd t
-

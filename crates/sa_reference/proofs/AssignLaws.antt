@@ -78,11 +78,13 @@ unfolding AreIn set_cells
 set_in f v [] [] a h = tt
 set_in f v [] (s ∷ ss) a h = absurd h
 set_in f v (c ∷ cs) [] a h = absurd h
-set_in f v (c ∷ cs) (s ∷ ss) a h =
-    (elim (c.var == v) as (λ b. (c.var == v) ≡ b → IsIn c.num (if b then f c else s)) [
-      | true ↦ λ e. a.0 (number_is c.var v e)
-      | false ↦ λ e. h.0
-    ] refl, set_in f v cs ss a.1 h.1)
+set_in f v (c ∷ cs) (s ∷ ss) a h = (
+  elim (c.var == v) as (λ b. (c.var == v) ≡ b → IsIn c.num (if b then f c else s)) [
+    | true ↦ λ e. a.0 (number_is c.var v e)
+    | false ↦ λ e. h.0
+  ] refl,
+  set_in f v cs ss a.1 h.1,
+)
 
 -- and holds what the variable's elements become, while other cells hold what they held
 pub set_holds : (f : Cell → Span) (v : ℕ) (old new : Store) (cs : List Cell) (ss : List Span) → AllOf (λ c. c.var ≡ v → (q : Place) → names c q ≡ true → Within (f c) (new q)) cs →
@@ -91,11 +93,13 @@ unfolding AllHold set_cells
 set_holds f v old new [] [] a k h = tt
 set_holds f v old new [] (s ∷ ss) a k h = absurd h
 set_holds f v old new (c ∷ cs) [] a k h = absurd h
-set_holds f v old new (c ∷ cs) (s ∷ ss) a k h =
-    (elim (c.var == v) as (λ b. (c.var == v) ≡ b → (q : Place) → IsTrue (names c q) → Within (if b then f c else s) (new q)) [
-      | true ↦ λ e q n. a.0 (number_is c.var v e) q n
-      | false ↦ λ e q n. subst (λ (z : ℤ). Within s z) (sym (k q (other c q n e))) (h.0 q n)
-    ] refl, set_holds f v old new cs ss a.1 k h.1)
+set_holds f v old new (c ∷ cs) (s ∷ ss) a k h = (
+  elim (c.var == v) as (λ b. (c.var == v) ≡ b → (q : Place) → IsTrue (names c q) → Within (if b then f c else s) (new q)) [
+    | true ↦ λ e q n. a.0 (number_is c.var v e) q n
+    | false ↦ λ e q n. subst (λ (z : ℤ). Within s z) (sym (k q (other c q n e))) (h.0 q n)
+  ] refl,
+  set_holds f v old new cs ss a.1 k h.1,
+)
   where
     other : (c : Cell) (q : Place) → names c q ≡ true → (c.var == v) ≡ false → (q.var == v) ≡ false
     other c q n e =
@@ -122,12 +126,14 @@ cell_begins p = all_is (cells p) (of_program p (λ v. Leads (layout_of p v)) (λ
     all_is : (cs : List Cell) → AllOf (λ c. Leads (layout_of p c.var) (record { steps = c.steps; num = c.num })) cs →
         AllOf (λ c. (q : Place) → names c q ≡ true → Within (initial_span (initial_values p c.var) (layout_of p c.var) c.steps 0) (get_or (initial_values p c.var) (index_of (layout_of p c.var) q.parts) (pos 0))) cs
     all_is [] h = tt
-    all_is (c ∷ cs) h =
-        (λ q n.
+    all_is (c ∷ cs) h = (
+      λ q n.
           let cov = and_right (c.var == q.var) (covers c.steps q.parts) (and_right (is_root q.path) (c.var == q.var && covers c.steps q.parts) n) in
           let z : 0 + index_of (layout_of p c.var) q.parts ≡ index_of (layout_of p c.var) q.parts = omega arith in
           subst (λ (i : ℕ). Within (initial_span (initial_values p c.var) (layout_of p c.var) c.steps 0) (get_or (initial_values p c.var) i (pos 0))) z
-          (begins_within (initial_values p c.var) c.steps (layout_of p c.var) q.parts c.num 0 cov (h.0 q.parts cov)), all_is cs h.1)
+          (begins_within (initial_values p c.var) c.steps (layout_of p c.var) q.parts c.num 0 cov (h.0 q.parts cov)),
+      all_is cs h.1,
+    )
 
 items_fit : (p : Program) → IsTyped p → (v : ℕ) → Fits (layout_of p v) (initial_values p v) 0
 items_fit p t v i num g = from (slice_get p.vars v) refl
@@ -164,13 +170,15 @@ begin_spans_hold : (p : Program) → IsTyped p → (cs : List Cell) → AllOf (�
     AllOf (λ c. (q : Place) → names c q ≡ true → Within (items_span p c) (get_or (initial_values p c.var) (index_of (layout_of p c.var) q.parts) (pos 0))) cs → AllHold cs (initial_spans p cs) (initial_store p)
 unfolding AllHold initial_spans cell_range
 begin_spans_hold p t [] l h = tt
-begin_spans_hold p t (c ∷ cs) l h =
-    (elim (is_local_var (slice_get p.vars c.var)) as (λ b. (q : Place) → IsTrue (names c q) → Within (if b then range_of c.num else items_span p c) (initial_store p q)) [
-      | true ↦ λ q n. subst (λ (v : ℕ). Within (range_of c.num) (get_or (initial_values p v) (index_of (layout_of p v) q.parts) (pos 0))) (var_is c q n)
-          (let z : 0 + index_of (layout_of p c.var) q.parts ≡ index_of (layout_of p c.var) q.parts = omega arith in
-          of_within c.num _ (subst (λ (i : ℕ). is_of c.num (get_or (initial_values p c.var) i (pos 0)) ≡ true) z (items_fit p t c.var (index_of (layout_of p c.var) q.parts) c.num (l.0 q n))))
-      | false ↦ λ q n. subst (λ (v : ℕ). Within (items_span p c) (get_or (initial_values p v) (index_of (layout_of p v) q.parts) (pos 0))) (var_is c q n) (h.0 q n)
-    ], begin_spans_hold p t cs l.1 h.1)
+begin_spans_hold p t (c ∷ cs) l h = (
+  elim (is_local_var (slice_get p.vars c.var)) as (λ b. (q : Place) → IsTrue (names c q) → Within (if b then range_of c.num else items_span p c) (initial_store p q)) [
+    | true ↦ λ q n. subst (λ (v : ℕ). Within (range_of c.num) (get_or (initial_values p v) (index_of (layout_of p v) q.parts) (pos 0))) (var_is c q n)
+        (let z : 0 + index_of (layout_of p c.var) q.parts ≡ index_of (layout_of p c.var) q.parts = omega arith in
+        of_within c.num _ (subst (λ (i : ℕ). is_of c.num (get_or (initial_values p c.var) i (pos 0)) ≡ true) z (items_fit p t c.var (index_of (layout_of p c.var) q.parts) c.num (l.0 q n))))
+    | false ↦ λ q n. subst (λ (v : ℕ). Within (items_span p c) (get_or (initial_values p v) (index_of (layout_of p v) q.parts) (pos 0))) (var_is c q n) (h.0 q n)
+  ],
+  begin_spans_hold p t cs l.1 h.1,
+)
   where
     var_is : (c : Cell) (q : Place) → names c q ≡ true → c.var ≡ q.var
     var_is c q n = number_is c.var q.var (and_left (c.var == q.var) (covers c.steps q.parts) (and_right (is_root q.path) (c.var == q.var && covers c.steps q.parts) n))

@@ -125,6 +125,7 @@ in_row n l i ps false e m = any_behind (all n) (At i) ps (inner_cells l) e m
 
 mutual
   unfolding parts_layout inner_cells field_cells nth_field step_into covers
+
   pub element_cell : (l : Layout) (ps : List Part) (num : Num) → parts_layout (Some l) ps ≡ Some (leaf num) → AnyOf (Covering ps) (inner_cells l)
   element_cell (leaf m) [] num h = inl refl
   element_cell (leaf m) (s ∷ ps) num h = none_is ps (leaf num) h
@@ -207,6 +208,7 @@ leaf_leads num (p ∷ ps) e = cc
 
 mutual
   unfolding inner_cells field_cells nth_field
+
   pub cells_lead : (l : Layout) → AllOf (Leads l) (inner_cells l)
   cells_lead (leaf num) = (leaf_leads num, tt)
   cells_lead (row n l) = rows_lead n l (nat_le n most_elements) (cells_lead l)
@@ -408,6 +410,7 @@ leaf_num m (r ∷ rs) num t e = cc
 
 mutual
   unfolding inner_cells field_cells nth_field
+
   pub cells_num : (l : Layout) → AllOf (HasNum l) (inner_cells l)
   cells_num (leaf num) = (leaf_num num, tt)
   cells_num (row n l) = rows_num n l (nat_le n most_elements) (cells_num l)

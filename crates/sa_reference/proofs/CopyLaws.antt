@@ -346,13 +346,13 @@ module _ (p : Program) (here : Here) (v u : ℕ) (rs qs : List Reach) (ps ts : L
       let m = named_var (pre ++ c.steps) c.num q n in
       elim (starred_at (cells p) k) as (λ s. starred_at (cells p) k ≡ s → Within (if s then join_of now (cell_span old d) else cell_span old d) (new q)) [
         | true ↦ λ s. elim (after_parts ps q.parts) as (λ o. after_parts ps q.parts ≡ o → Within (join_of now (cell_span old d)) (new q)) [
-            | None ↦ λ g. join_left now (cell_span old d) (new q) (subst (λ (z : ℤ). Within now z) (sym (beside q m.0 g)) (h q n))
-            | Some rest ↦ λ g. join_right now (cell_span old d) (new q) (holds_below c d q rest f m.0 m.1 g)
-          ] refl
+          | None ↦ λ g. join_left now (cell_span old d) (new q) (subst (λ (z : ℤ). Within now z) (sym (beside q m.0 g)) (h q n))
+          | Some rest ↦ λ g. join_right now (cell_span old d) (new q) (holds_below c d q rest f m.0 m.1 g)
+        ] refl
         | false ↦ λ s. elim (after_parts ps q.parts) as (λ o. after_parts ps q.parts ≡ o → Within (cell_span old d) (new q)) [
-            | None ↦ λ g. absurd (one_below pre c.steps ps q.parts (alone s) (covers_to ps (layout_of p v) l leads) m.1 g)
-            | Some rest ↦ λ g. holds_below c d q rest f m.0 m.1 g
-          ] refl
+          | None ↦ λ g. absurd (one_below pre c.steps ps q.parts (alone s) (covers_to ps (layout_of p v) l leads) m.1 g)
+          | Some rest ↦ λ g. holds_below c d q rest f m.0 m.1 g
+        ] refl
       ] refl
     where
       alone : starred_at (cells p) k ≡ false → is_starred (pre ++ c.steps) ≡ false
@@ -406,9 +406,9 @@ module _ (p : Program) (here : Here) (v u : ℕ) (rs qs : List Reach) (ps ts : L
       elim (same_var q to) as (λ s. same_var q to ≡ s → new q ≡ store q) [
         | false ↦ λ s. apart q s
         | true ↦ λ s. elim (after_parts ps q.parts) as (λ o. after_parts ps q.parts ≡ o → new q ≡ store q) [
-            | None ↦ λ g. beside q s g
-            | Some rest ↦ λ g. absurd (n (among rest s g))
-          ] refl
+          | None ↦ λ g. beside q s g
+          | Some rest ↦ λ g. absurd (n (among rest s g))
+        ] refl
       ] refl
     where
       among : (rest : List Part) → same_var q to ≡ true → after_parts ps q.parts ≡ Some rest → IsAmong j (named_from 0 (cells p) v rs)

@@ -63,6 +63,7 @@ IsExactly (reach.Into f) (part.Field g) = f ≡ g
 module _ (w : Setting) (here : Here) (store : Store) where
   mutual
     unfolding eval is_constant constant_value
+
     pub agrees : (e : Expr) → is_constant e ≡ true → (tape : List ℤ) → Agrees (constant_value e) (eval w here store e tape)
     agrees (Number n num) h tape = refl
     agrees (Read' v n steps num) h tape = cc

@@ -48,6 +48,7 @@ times_get (suc n) xs (suc i) j a h g =
 -- ---- an element by its number
 mutual
   unfolding parts_layout nums index_of step_into nth_field before_field
+
   pub number_of : (l : Layout) (ps : List Part) (num : Num) → parts_layout (Some l) ps ≡ Some (leaf num) → slice_get (nums l) (index_of l ps) ≡ Some num
   number_of (leaf m) [] num h = let e : m ≡ num = cc in ap Some e
   number_of (leaf m) (s ∷ ps) num h = none_is ps (leaf num) h
@@ -206,6 +207,7 @@ begin_leaf zs num at f = let e : at + 0 ≡ at = omega arith in single_in num _ 
 
 mutual
   unfolding inner_cells field_cells nth_field
+
   pub cells_begin : (zs : List ℤ) (l : Layout) → AllOf (Begins zs l) (inner_cells l)
   cells_begin zs (leaf num) = (begin_leaf zs num, tt)
   cells_begin zs (row n l) = begin_rows zs n l (nat_le n most_elements) (cells_begin zs l)

@@ -257,6 +257,7 @@ module _ (p : Program) (w : Setting) (D : Domain) (L : Laws p w D) (G : Found D.
   -- ---- statements
   mutual
     unfolding run after found IsTypedStmt
+
     run_follows : (s : Stmt) (path : List Pos) → IsTypedStmt p s → Follows (λ st. run p w path s st) (λ e. after D s path e) (λ e. found D s path e)
     run_follows (Stmt.Simple s) path t e st b =
         valued (λ store. AliveAnd (λ i. D.Holds i store st.clock) (D.simple s e)) (D.simple_alarms s e) (simple_value p w (here_in path st) s st.store st.tape) (goes_on (D.simple s e)) st
@@ -298,7 +299,6 @@ module _ (p : Program) (w : Setting) (D : Domain) (L : Laws p w D) (G : Found D.
   program_follows t g tape k =
       ended_ok (after D (main_of p) [] D.initial) (run p w [] (main_of p) (start p tape k))
       (run_follows (main_of p) [] t.body D.initial (start p tape k) (record { under = L.initial_keeps; has = g; holds = L.initial_sound; inside = tt }))
-
 
 -- ---- the reference
 module _ (p : Program) (w : Setting) (D : Domain) (L : Laws p w D) (t : IsTyped p) where

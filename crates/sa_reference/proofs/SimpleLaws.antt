@@ -102,8 +102,8 @@ module _ (p : Program) (w : Setting) (F : OperatorFacts) (within : IsWithin p w)
   any_holds v zs a = record {
     cells = set_holds cell_range v store (filled p here v zs store) (cells p) env.cells
         (all_map _ _ (cells p) (λ c l e q n.
-          subst (λ (z : ℤ). Within (range_of c.num) z) (sym (filled_is v zs c q e n))
-          (of_within c.num _ (subst (λ (u : ℕ). AreNumbers (nums (layout_of p u)) zs) (sym e) a (index_of (layout_of p c.var) q.parts) c.num (l q n)))) (cell_leads p))
+        subst (λ (z : ℤ). Within (range_of c.num) z) (sym (filled_is v zs c q e n))
+        (of_within c.num _ (subst (λ (u : ℕ). AreNumbers (nums (layout_of p u)) zs) (sym e) a (index_of (layout_of p c.var) q.parts) c.num (l q n)))) (cell_leads p))
         (filled_else v zs) holds.cells;
     clock = holds.clock;
   }
@@ -112,8 +112,8 @@ module _ (p : Program) (w : Setting) (F : OperatorFacts) (within : IsWithin p w)
   items_hold v = record {
     cells = set_holds (items_span p) v store (filled p here v (zs_of v) store) (cells p) env.cells
         (all_map _ _ (cells p) (λ c l e q n.
-          subst (λ (z : ℤ). Within (items_span p c) z) (sym (filled_is v (zs_of v) c q e n))
-          (subst (λ (u : ℕ). Within (items_span p c) (get_or (zs_of u) (index_of (layout_of p c.var) q.parts) (pos 0))) e (l q n))) (cell_begins p))
+        subst (λ (z : ℤ). Within (items_span p c) z) (sym (filled_is v (zs_of v) c q e n))
+        (subst (λ (u : ℕ). Within (items_span p c) (get_or (zs_of u) (index_of (layout_of p c.var) q.parts) (pos 0))) e (l q n))) (cell_begins p))
         (filled_else v (zs_of v)) holds.cells;
     clock = holds.clock;
   }

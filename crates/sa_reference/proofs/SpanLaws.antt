@@ -76,10 +76,10 @@ meet_meets a b =
     elim (le_z (int_max a.lo b.lo) (int_min a.hi b.hi)) as (λ t. le_z (int_max a.lo b.lo) (int_min a.hi b.hi) ≡ t →
     IfAlive (Meets a b) (if t then Some (record { lo = int_max a.lo b.lo; hi = int_min a.hi b.hi }) else None)) [
       | true ↦ λ e. record {
-          ordered = grind (arith, ints);
-          first = record { above = omega (arith, ints, clamps); below = omega (arith, ints, clamps) };
-          second = record { above = omega (arith, ints, clamps); below = omega (arith, ints, clamps) };
-        }
+        ordered = grind (arith, ints);
+        first = record { above = omega (arith, ints, clamps); below = omega (arith, ints, clamps) };
+        second = record { above = omega (arith, ints, clamps); below = omega (arith, ints, clamps) };
+      }
       | false ↦ λ e. tt
     ] refl
 

@@ -97,6 +97,7 @@ module _ (p : Program) (w : Setting) (D : Domain) (L : Laws p w D) where
 
   mutual
     unfolding after IsTypedStmt
+
     pub after_keeps : (s : Stmt) (path : List Pos) → IsTypedStmt p s → PieceKeeps (λ e. after D s path e)
     after_keeps (Stmt.Simple s) path t e u = on_keeps (D.simple s e) (L.simple_keeps s e t u)
     after_keeps (Stmt.Block' n all) path t e u =
@@ -137,6 +138,7 @@ module _ (p : Program) (w : Setting) (D : Domain) (L : Laws p w D) where
 
   mutual
     unfolding found IsTypedStmt
+
     pub found_fair : (s : Stmt) (path : List Pos) → IsTypedStmt p s → (e : D.Env) → L.Under e → AreFair (found D s path e)
     found_fair (Stmt.Simple s) path t e u = tt
     found_fair (Stmt.Block' n all) path t e u = all_fair all path t (e ∷ []) (u, tt)

@@ -337,6 +337,7 @@ module _ (p : Program) (w : Setting) (F : OperatorFacts) (within : IsWithin p w)
 
   mutual
     unfolding span_of IsTypedExpr type_of links_type
+
     pub span_in : (e : Expr) → IsTypedExpr p e → IfAlive (λ s. IsIn (type_of e) s) (span_of p w env e)
     span_in (Number n num) t = number_in n num t
     span_in (Read' v n steps num) t = read_in v steps num t.1
@@ -407,6 +408,7 @@ module _ (p : Program) (w : Setting) (F : OperatorFacts) (within : IsWithin p w)
 
   mutual
     unfolding eval span_of alarms_of IsTypedExpr type_of links_type steps_layout parts_layout Matches
+
     pub known : (e : Expr) → IsTypedExpr p e → (tape : List ℤ) → Covers (InSpan (span_of p w env e)) (alarms_of p w env e) (eval w here store e tape)
     known (Number n num) t tape = single_within (pos n)
     known (Read' v n steps num) t tape = read_known v steps num tape (steps_known steps (layout_of p v) (leaf num) t.0 t.1 tape)
@@ -431,10 +433,10 @@ module _ (p : Program) (w : Setting) (F : OperatorFacts) (within : IsWithin p w)
         let second = with_both o (span_of p w env b) (operator_alarms op q work) in
         let next = linked op work o (span_of p w env b) in
         let step = both_cover (InSpan o) (InSpan next) some (first ++ second) v (λ x tape. then_value (eval w here store b tape) (λ y tape. given q (operate op work x y) tape)) c
-            (λ x tape i. both_cover (InSpan (span_of p w env b)) (InSpan next) first second (eval w here store b tape) (λ y tape. given q (operate op work x y) tape) (known b t.0 tape)
-            (λ y tape j. link_covers F op q left work (type_of b) o (span_of p w env b) x y tape t.1.0 h kb i j)) in
+        (λ x tape i. both_cover (InSpan (span_of p w env b)) (InSpan next) first second (eval w here store b tape) (λ y tape. given q (operate op work x y) tape) (known b t.0 tape)
+        (λ y tape j. link_covers F op q left work (type_of b) o (span_of p w env b) x y tape t.1.0 h kb i j)) in
         let k = links_known rest (result_type op work) next (some ++ (first ++ second)) (then_value v (λ x tape. then_value (eval w here store b tape) (λ y tape. given q (operate op work x y) tape)))
-            t.1.1 (link_in F op left work (type_of b) o (span_of p w env b) t.1.0 h kb) step in
+        t.1.1 (link_in F op left work (type_of b) o (span_of p w env b) t.1.0 h kb) step in
         more_covers (InSpan (links_span p w env rest next)) ((some ++ (first ++ second)) ++ links_alarms p w env rest next) (some ++ (first ++ (second ++ links_alarms p w env rest next)))
         (links_value w here store rest (then_value v (λ x tape. then_value (eval w here store b tape) (λ y tape. given q (operate op work x y) tape))))
         (λ a m. regroup a some first second (links_alarms p w env rest next) m) k

@@ -9,7 +9,7 @@ use Rattle.sa_base.specs.declared.alarm.Alarm.{Alarm}
 use Rattle.sa_base.specs.declared.alarm.Kind.TheVariants.{Index}
 use Rattle.sa_interval.specs.Span.{Span}
 use Rattle.sa_interval.specs.Rows.{single, join_of, meet_of, is_part}
-use Rattle.sa_typed.specs.Evaluation.{Setting, Range} 
+use Rattle.sa_typed.specs.Evaluation.{Setting, Range}
 use Rattle.sa_typed.specs.Evaluation as concrete
 use Rattle.sa_typed.specs.Constants.{fixed_index}
 use Rattle.sa_typed.specs.Cells.{Cell, one, all, of, cells}

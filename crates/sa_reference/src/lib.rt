@@ -6,9 +6,9 @@
 #![tactic(auto)]
 
 mod flat;
-mod soundness;
 mod reach;
+mod soundness;
 
 pub use flat::Flat;
-pub use soundness::is_sound;
 pub use reach::Reach;
+pub use soundness::is_sound;

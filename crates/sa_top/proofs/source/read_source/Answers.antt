@@ -15,7 +15,6 @@ returns-in_err-unit-clause-rejected c =
     rw (p.1, p.2)
     (parser-rejected c.args.source.now c.in_ok-tokens.tokens.items c.deref.result.now c.end_of-end.result c.in_err-unit.field-0.0 c.requires c.in_ok-tokens.ensures.lexed c.deref.ensures.value c.end_of-end.ensures c.in_err-unit.ensures.fault)
 
-
 pub returns-in-Some-clause-rejected : goal.returns-in-Some-clause-rejected
 returns-in-Some-clause-rejected c =
     unbuilt-rejected c.args.source.now c.in_ok-tokens.tokens.items c.deref.result.now c.in_ok-unit.unit c.end_of-end.result c.requires c.in_ok-tokens.ensures.lexed c.deref.ensures.value c.end_of-end.ensures c.in_ok-unit.ensures.ok _ (sym c.first_unbuilt.ensures ∙ c.in-Some.is)
