@@ -27,7 +27,7 @@ use Rattle.sa_typer.specs.declared.types.Element.TheVariants as el
 use Rattle.sa_typer.specs.declared.types.Ty.{Ty}
 use Rattle.sa_typer.specs.Types as types
 use Rattle.sa_typer.specs.Types.{qualifiers, object, plain}
-use Rattle.sa_typer.specs.Operands.{literal, beside, prefix_of, prefixed, cast, left_of, linked, chained}
+use Rattle.sa_typer.specs.Operands.{some_number, literal, beside, prefix_of, prefixed, cast, left_of, linked, chained}
 use Rattle.sa_typer.specs.Places as place
 use Rattle.sa_typer.specs.Definitions as def
 use Rattle.sa_typer.specs.Definitions.{no_fields}
@@ -88,7 +88,7 @@ pub expr-Prefix : (op : Prefix) (p : Pos) (x : Expr) (s : Typer) → expr (v.Pre
 unfolding expr Rattle.sa_syntax.specs.declared.decl.Base.TheBlock.hidden-the_row-Expr-1 denote.Hole.Carrier.hidden
 expr-Prefix op p x s = refl
 
-pub expr-Choice : (x : Expr) (p : Pos) (y z : Expr) (s : Typer) → expr (v.Choice x p y z) s ≡ Gives a.Unknown s
+pub expr-Choice : (x : Expr) (p : Pos) (y z : Expr) (s : Typer) → expr (v.Choice x p y z) s ≡ Gives some_number s
 unfolding expr
 expr-Choice x p y z s = refl
 

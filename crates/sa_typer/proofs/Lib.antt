@@ -13,4 +13,15 @@ pub mod StmtRows
 pub mod BodyLemmas
 pub mod UnitLemmas
 pub mod UnbuiltLemmas
+pub mod StructLaws
+pub mod RowLaws
+pub mod WalkLaws
+pub mod OperandLaws
+pub mod PlaceLaws
+pub mod TypeLaws
+pub mod ExprLaws
+pub mod InitialLaws
+pub mod DeclarationLaws
+pub mod StmtLaws
+pub mod UnitLaws
 pub mod AnswerLemmas

@@ -64,14 +64,9 @@ unfolding sum_by
 sum-same sizes x zero = sym (zero-mul (size_by false sizes x))
 sum-same sizes x (suc n) = let h = sum-same sizes x n in let m = suc-mul n (size_by false sizes x) in omega (arith, h, m)
 
-none-missing : (sizes : List ℕ) (k : ℕ) → sum_by false sizes (drop k []) ≡ 0
-unfolding sum_by
-none-missing sizes zero = refl
-none-missing sizes (suc k) = refl
-
-pub missing-Scalar : (s : Structs) (num : Num) (k : ℕ) → missing s (sh.Scalar num) k ≡ 0
-unfolding missing slots elements_in
-missing-Scalar s num k = none-missing (sizes_of false s.defs) k
+pub missing-Scalar : (s : Structs) (num : Num) (k : ℕ) → missing s (sh.Scalar num) k ≡ 1
+unfolding missing
+missing-Scalar s num k = refl
 
 pub missing-Struct : (s : Structs) (n k : ℕ) → missing s (sh.Struct n) k ≡ sum_by false (sizes_of false s.defs) (map field_shape (drop k (fields_in (slice_get s.defs n))))
 unfolding missing slots elements_in

@@ -17,7 +17,7 @@ use Rattle.sa_typed.specs.declared.expr.Operator.{Operator}
 use Rattle.sa_typed.specs.declared.expr.Operator.TheVariants as op
 use Rattle.sa_typed.specs.declared.expr.Prefix.{Prefix}
 use Rattle.sa_typed.specs.declared.expr.Prefix.TheVariants as pre
-use Rattle.sa_typed.specs.Arithmetic.{promoted, literal_type, result_type, prefix_type}
+use Rattle.sa_typed.specs.Arithmetic.{is_of, promoted, literal_type, result_type, prefix_type}
 use Rattle.sa_typer.specs.declared.constant.Value.{Value}
 use Rattle.sa_typer.specs.declared.constant.Value.TheVariants.{Varies}
 use Rattle.sa_typer.specs.declared.operand.Operand.{Operand}
@@ -58,9 +58,14 @@ expr_or (a.Number x num v) = x
 expr_or _ = stand_in
 
 -- ---- literals
+-- no text has a literal that its type doesn't hold; such a one counts as 0
+abbrev pub literal_number : Num → ℕ → ℕ
+literal_number num v = if is_of num (pos v) then v else 0
+
 unfoldable pub literal : ℕ → Bool → ℕ → Bool → Operand
 literal v unsigned longs decimal =
-    a.Number (e.Number v (literal_type v unsigned longs decimal)) (literal_type v unsigned longs decimal) (literal_value (literal_type v unsigned longs decimal) v)
+    a.Number (e.Number (literal_number (literal_type v unsigned longs decimal) v) (literal_type v unsigned longs decimal)) (literal_type v unsigned longs decimal)
+    (literal_value (literal_type v unsigned longs decimal) v)
 
 -- the value of a literal that stands by itself, in brackets or not, after one `-` where that flag is set
 unfoldable pub by_itself : Bool → tree.Expr → Option ℕ
@@ -181,6 +186,10 @@ linked op p l (a.Struct x k fixed q) = refuse 5 p >> pure some_left
 linked op p l (a.Array q) = refuse 5 p >> pure some_left
 linked op p l a.Unknown = refuse_if (is_object l.sort) 5 p >> pure some_left
 
--- the whole chain
+-- the whole chain; an object has no operator behind it only where there is none at all, which no text has
 abbrev pub chained : Left → Operand
-chained l = elim l.sort as (λ _. Operand) [ sort.Number num ↦ a.Number (e.Chain l.first l.links) num l.value | _ ↦ a.Unknown ]
+chained l = elim l.sort as (λ _. Operand) [
+  | sort.Number num ↦ a.Number (e.Chain l.first l.links) num l.value
+  | sort.Object ↦ some_number
+  | sort.Unknown ↦ a.Unknown
+]

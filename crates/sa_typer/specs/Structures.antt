@@ -79,8 +79,9 @@ slots s (Array' n (more_of-Shape element end_of-Shape) count) = replicate count 
 unfoldable pub slot : Structs → Shape → ℕ → Option Shape
 slot s shape k = slice_get (slots s shape) k
 
--- how many elements there are after so many items
+-- how many elements there are after so many items; a number has no slot, and is 0 where braces are empty, which no text has
 unfoldable pub missing : Structs → Shape → ℕ → ℕ
+missing s (Scalar num) k = 1
 missing s shape k = elements_in s (drop k (slots s shape))
 
 -- ---- fields

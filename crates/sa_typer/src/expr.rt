@@ -9,7 +9,7 @@ ghost use Rattle.sa_typer.specs.Typing.{Yields, given};
 use crate::definition::{close, dimension, field, no_fields, open_tag};
 use crate::first::expr_pos;
 use crate::operand::{
-    Left, Operand, Spot, beside, cast, left_of, linked, literal, prefix_of, prefixed,
+    Left, Operand, Spot, beside, cast, left_of, linked, literal, prefix_of, prefixed, some_number,
 };
 use crate::place::{arrow, begins, field as step_field, index, operand};
 use crate::structs::Fields;
@@ -54,7 +54,7 @@ pub fn expr(alloc: Global, typer: &mut Typer, e: &Expr) -> Result<Operand, OutOf
             let left = links(alloc, typer, more.as_slice(), left)?;
             left.into_operand(alloc)
         }
-        Expr::Choice(_, _, _, _) => Ok(Operand::Unknown),
+        Expr::Choice(_, _, _, _) => Ok(some_number()),
     }
 }
 

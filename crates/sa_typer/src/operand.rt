@@ -8,7 +8,7 @@ use crate::constant::{Value, literal_value, working};
 use crate::typer::Typer;
 use crate::types::Element;
 use sa_base::{Num, OutOfMemory, Pos};
-use sa_typed::{Access, Expr, Link, Operator, Prefix, Shape, Step, literal_type, promoted};
+use sa_typed::{Access, Expr, Link, Operator, Prefix, Shape, Step, is_of, literal_type, promoted};
 use sqlite_items::{Boxed, Items};
 use std::alloc::Global;
 
@@ -124,12 +124,27 @@ impl Operand {
 
 // ---- literals
 
+/// The number of a literal of that type. No text has one that its type doesn't hold; such a one counts as 0.
+fn literal_number(num: Num, value: u64) -> u64
+    ensures { result ≡ spec.literal_number num value }
+{
+    if is_of(num, i128::from(value)) {
+        value
+    } else {
+        0
+    }
+}
+
 #[tactic(auto, unfolding(crate::specs::Operands::literal))]
 pub fn literal(value: u64, unsigned: bool, longs: u8, decimal: bool) -> Operand
     ensures { result ≡ spec.literal value unsigned longs decimal }
 {
     let num = literal_type(value, unsigned, longs, decimal);
-    Operand::Number(Expr::Number(value, num), num, literal_value(num, value))
+    Operand::Number(
+        Expr::Number(literal_number(num, value), num),
+        num,
+        literal_value(num, value),
+    )
 }
 
 /// The value of a literal that stands by itself, in brackets or not, after one `-` where that flag is set.
@@ -401,7 +416,8 @@ impl Left {
                 let expr = Expr::Chain(Boxed::new(alloc, self.first)?, self.links);
                 Ok(Operand::Number(expr, num, self.value))
             }
-            _ => Ok(Operand::Unknown),
+            Sort::Object => Ok(some_number()),
+            Sort::Unknown => Ok(Operand::Unknown),
         }
     }
 }

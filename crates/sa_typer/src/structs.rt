@@ -219,7 +219,7 @@ impl Structs {
     {
         let sizes = self.sizes.as_slice();
         match shape {
-            Shape::Scalar(_) => Ok(0),
+            Shape::Scalar(_) => Ok(1),
             Shape::Struct(number) => {
                 let fields = fields_from(self.defs.get(*number as usize), given);
                 exact(fields_size(false, sizes, fields))

@@ -1,8 +1,10 @@
 //! Whole sources.
 
-ghost use Rattle.std.specs.Prelude.{◌≡◌, None, IfOk, IfErr, nat_le};
+ghost use Rattle.std.specs.Prelude.{◌≡◌, ◌≤◌, None, IfOk, IfErr, length, nat_le};
 ghost use Rattle.sa_base.specs.Numbers.{limit_number};
 ghost use Rattle.sa_base.specs.declared.limit.Limit.TheVariants.{Cells};
+ghost use Rattle.sa_typed.specs.Cells.{cells};
+ghost use Rattle.sa_typed.specs.WellTyped.{IsTyped};
 ghost use Rattle.sa_typer.specs.Units as spec;
 ghost use Rattle.sa_typer.specs.Units.{Accepts, Tells};
 ghost use Rattle.sa_typer.specs.Answers.{IsFault};
@@ -286,9 +288,11 @@ fn answer(alloc: Global, unit: &Unit, end: Pos) -> Result<Program, TypeFault>
 /// The typed program of a tree whose text ends there. It is refused by the least refusal of the text: the one with the least
 /// place, and of those the one with the least rule; where nothing is refused, by the limit of cells. `specs/` has the rules
 /// with their sources in ISO C.
-#[tactic(auto, using(crate::proofs::AnswerLemmas::told_accepted, crate::proofs::AnswerLemmas::told_refused))]
+#[tactic(auto, using(crate::proofs::AnswerLemmas::told_accepted, crate::proofs::AnswerLemmas::told_typed, crate::proofs::AnswerLemmas::told_small, crate::proofs::AnswerLemmas::told_refused))]
 pub fn type_unit(alloc: Global, unit: &Unit, end: Pos) -> Result<Program, TypeFault>
     ensures accepted { IfOk result (λ p. spec.answer unit.now end ≡ Accepts p) }
+    ensures typed { IfOk result IsTyped }
+    ensures small { IfOk result (λ p. length (cells p) ≤ 65536) }
     ensures refused { IfErr result (IsFault unit.now end) }
 {
     answer(alloc, unit, end)

@@ -1,4 +1,0 @@
-mod FoundLemmas
-mod PassLemmas
-mod StraightLaws
-mod WalkLemmas

@@ -1,4 +1,0 @@
-pub mod Alarms
-pub mod Names
-pub mod Shown
-pub mod Report

@@ -1,6 +1,0 @@
-pub mod FormLaws
-pub mod TypeLaws
-pub mod ListLaws
-pub mod StoreLaws
-pub mod FixedLaws
-pub mod ChangeLaws
