@@ -1,10 +1,12 @@
 -- A source has one answer.
-use Rattle.std.proofs.Common.{◌≡◌, ℕ, List, [], ◌∷◌, append_assoc, refl, ap, sym, subst, ◌∙◌, arith, inl, inr, ◌⊎◌, ⊎_elim}
+use Rattle.std.proofs.Common.{◌≡◌, ℕ, ◌<◌, length, List, [], ◌∷◌, append_assoc, refl, ap, sym, subst, ◌∙◌, arith, inl, inr, ◌⊎◌, ⊎_elim}
 use Rattle.sa_base.specs.declared.pos.Pos.{Pos}
 use Rattle.sa_base.specs.declared.status.Status.{Status}
 use Rattle.sa_base.specs.declared.status.Status.TheVariants as s
 use Rattle.sa_base.specs.declared.refusal.Code.TheVariants as code
-use Rattle.sa_base.specs.declared.limit.Limit.TheVariants.{Tokens}
+use Rattle.sa_base.specs.declared.limit.Limit.TheVariants.{Tokens, Cells}
+use Rattle.sa_base.specs.declared.limit.Limit.TheVariants.{Source as Length}
+use Rattle.sa_base.specs.Numbers.{limit_number}
 use Rattle.sa_tokens.specs.declared.token.Token.{Token}
 use Rattle.sa_tokens.specs.declared.fault.TokenFault.{TokenFault}
 use Rattle.sa_tokens.specs.declared.fault.TokenFault.TheVariants.{BadByte, BadNumber, OpenComment, Directive, TooManyTokens, OutOfMemory}
@@ -15,12 +17,10 @@ use Rattle.sa_syntax.specs.Refusals.{IsSource, most_open}
 use Rattle.sa_syntax.proofs.UnitComplete.{one-tree}
 use Rattle.sa_parser.specs.declared.fault.ParseFault.TheVariants.{Syntax, TooDeep}
 use Rattle.sa_parser.specs.Faults.{IsFault}
-use Rattle.sa_top.specs.declared.program.Program.{Program}
-use Rattle.sa_top.specs.declared.reading.Reading.{Reading}
-use Rattle.sa_top.specs.declared.reading.Reading.TheVariants.{Built, Unbuilt}
-use Rattle.sa_top.specs.Building.{reading_of}
-use Rattle.sa_top.specs.Accepted.{IsRead, IsAccepted, OneReading}
-use Rattle.sa_top.specs.Answer.{HasNoTokens, bad_byte, bad_number, open_comment, directive, too_many, IsUnparsed, no_tree, too_deep, IsWithin, SourceAnswer, too_long, unlexed, unparsed, unbuilt, report, report_status, report_of, OneAnswer}
+use Rattle.sa_base.specs.declared.refusal.Refusal.{Refusal}
+use Rattle.sa_typed.specs.declared.program.Program.{Program}
+use Rattle.sa_top.specs.Accepted.{Reading, Unbuilt, Refused, TooLarge, Built, reading_of, IsRead, IsAccepted, OneReading}
+use Rattle.sa_top.specs.Answer.{HasNoTokens, bad_byte, bad_number, open_comment, directive, too_many, IsUnparsed, no_tree, too_deep, IsWithin, SourceAnswer, too_long, unlexed, unparsed, unbuilt, refused, too_large, report, report_status, report_of, OneAnswer}
 use Rattle.sa_top.specs.Report.{refused_text, limit_text}
 
 -- ---- what a fault of the parser excludes
@@ -100,41 +100,75 @@ pub reads-same : OneReading
 reads-same source r q a b =
     sym a.read ∙ ap (λ (u : Source). reading_of (end_pos source) u) (one-tree most_open most_open b.tokens a.tree b.tree (same-tree source r b.tokens a b.lexed) b.parsed) ∙ b.read
 
-unbuilt-same : (p q : Pos) → Unbuilt p ≡ Unbuilt q → p ≡ q
-unbuilt-same p q e = cc
+-- what a reading is answered with
+abbrev status_of : Reading → Status
+status_of (Unbuilt p) = s.SourceRefused
+status_of (Refused r) = s.SourceRefused
+status_of TooLarge = s.Limit
+status_of (Built p) = report_status p
 
-built-same : (p q : Program) → Built p ≡ Built q → p ≡ q
-built-same p q e = cc
+abbrev text_of : Reading → List ℕ
+text_of (Unbuilt p) = refused_text code.Unsupported p
+text_of (Refused r) = refused_text r.code r.pos
+text_of TooLarge = limit_text Cells
+text_of (Built p) = report_of p
+
+-- the sources that are within the limit and have a tree are answered by what they are read as
+record IsByReading (source : List ℕ) (status : Status) (text : List ℕ) : Type 0 where
+  reading : Reading
+  read : IsRead source reading
+  gives : status ≡ status_of reading
+  says : text ≡ text_of reading
+
+record IsTooLong (source : List ℕ) (status : Status) (text : List ℕ) : Type 0 where
+  long : limit_number Length < length source
+  gives : status ≡ s.Limit
+  says : text ≡ limit_text Length
+
+-- the four ways to an answer
+data Way (source : List ℕ) (status : Status) (text : List ℕ) : Type 0 where
+  by_length : IsTooLong source status text → Way source status text
+  by_tokens : IsWithin source → HasNoTokens source status text → Way source status text
+  by_tree : IsWithin source → IsUnparsed source status text → Way source status text
+  by_reading : IsWithin source → IsByReading source status text → Way source status text
+
+way : (source : List ℕ) (status : Status) (text : List ℕ) → SourceAnswer source status text → Way source status text
+way source _ _ (too_long h) = by_length (record { long = h; gives = refl; says = refl })
+way source _ _ (unlexed status text w a) = by_tokens w a
+way source _ _ (unparsed status text w a) = by_tree w a
+way source _ _ (unbuilt p w a) = by_reading w (record { reading = Unbuilt p; read = a; gives = refl; says = refl })
+way source _ _ (refused r w a) = by_reading w (record { reading = Refused r; read = a; gives = refl; says = refl })
+way source _ _ (too_large w a) = by_reading w (record { reading = TooLarge; read = a; gives = refl; says = refl })
+way source _ _ (report p w a) = by_reading w (record { reading = Built p; read = a; gives = refl; says = refl })
 
 -- ---- one answer
+One : List ℕ → (status other : Status) (text otherwise : List ℕ) → Type 0
+One source status other text otherwise = ((status ≡ other) × (text ≡ otherwise)) ⊎ (IsUnparsed source status text × IsUnparsed source other otherwise)
+
+ways_meet : (source : List ℕ) (status other : Status) (text otherwise : List ℕ) → Way source status text → Way source other otherwise → One source status other text otherwise
+unfolding One
+ways_meet source status other text otherwise (by_length h) (by_length k) = inl (h.gives ∙ sym k.gives, h.says ∙ sym k.says)
+ways_meet source status other text otherwise (by_length h) (by_tokens w a) = let l = h.long in absurd (omega (arith, l, w))
+ways_meet source status other text otherwise (by_length h) (by_tree w a) = let l = h.long in absurd (omega (arith, l, w))
+ways_meet source status other text otherwise (by_length h) (by_reading w a) = let l = h.long in absurd (omega (arith, l, w))
+ways_meet source status other text otherwise (by_tokens w a) (by_length h) = let l = h.long in absurd (omega (arith, l, w))
+ways_meet source status other text otherwise (by_tokens w a) (by_tokens v b) = inl (faults-same source status other text otherwise (by-fault source status text a) (by-fault source other otherwise b))
+ways_meet source status other text otherwise (by_tokens w a) (by_tree v b) = absurd (unlexed-unparsed source status other text otherwise a b)
+ways_meet source status other text otherwise (by_tokens w a) (by_reading v b) = absurd (unlexed-lexed source status text b.read.tokens a b.read.lexed)
+ways_meet source status other text otherwise (by_tree w a) (by_length h) = let l = h.long in absurd (omega (arith, l, w))
+ways_meet source status other text otherwise (by_tree w a) (by_tokens v b) = absurd (unlexed-unparsed source other status otherwise text b a)
+ways_meet source status other text otherwise (by_tree w a) (by_tree v b) = inr (a, b)
+ways_meet source status other text otherwise (by_tree w a) (by_reading v b) = absurd (unparsed-read source status text b.reading a b.read)
+ways_meet source status other text otherwise (by_reading w a) (by_length h) = let l = h.long in absurd (omega (arith, l, w))
+ways_meet source status other text otherwise (by_reading w a) (by_tokens v b) = absurd (unlexed-lexed source other otherwise a.read.tokens b a.read.lexed)
+ways_meet source status other text otherwise (by_reading w a) (by_tree v b) = absurd (unparsed-read source other otherwise a.reading b a.read)
+ways_meet source status other text otherwise (by_reading w a) (by_reading v b) =
+    let e = reads-same source a.reading b.reading a.read b.read in
+    inl (a.gives ∙ ap status_of e ∙ sym b.gives, a.says ∙ ap text_of e ∙ sym b.says)
+
 pub one_answer : OneAnswer
-one_answer source _ _ _ _ (too_long h) (too_long k) = inl (refl, refl)
-one_answer source _ _ _ _ (too_long h) (unlexed status text w a) = absurd (omega arith)
-one_answer source _ _ _ _ (too_long h) (unparsed status text w a) = absurd (omega arith)
-one_answer source _ _ _ _ (too_long h) (unbuilt p w a) = absurd (omega arith)
-one_answer source _ _ _ _ (too_long h) (report p w a) = absurd (omega arith)
-one_answer source _ _ _ _ (unlexed status text w a) (too_long h) = absurd (omega arith)
-one_answer source _ _ _ _ (unlexed status text w a) (unlexed other otherwise v b) = inl (faults-same source status other text otherwise (by-fault source status text a) (by-fault source other otherwise b))
-one_answer source _ _ _ _ (unlexed status text w a) (unparsed other otherwise v b) = absurd (unlexed-unparsed source status other text otherwise a b)
-one_answer source _ _ _ _ (unlexed status text w a) (unbuilt p v b) = absurd (unlexed-lexed source status text b.tokens a b.lexed)
-one_answer source _ _ _ _ (unlexed status text w a) (report p v b) = absurd (unlexed-lexed source status text b.tokens a b.lexed)
-one_answer source _ _ _ _ (unparsed status text w a) (too_long h) = absurd (omega arith)
-one_answer source _ _ _ _ (unparsed status text w a) (unlexed other otherwise v b) = absurd (unlexed-unparsed source other status otherwise text b a)
-one_answer source _ _ _ _ (unparsed status text w a) (unparsed other otherwise v b) = inr (a, b)
-one_answer source _ _ _ _ (unparsed status text w a) (unbuilt p v b) = absurd (unparsed-read source status text (Unbuilt p) a b)
-one_answer source _ _ _ _ (unparsed status text w a) (report p v b) = absurd (unparsed-read source status text (Built p) a b)
-one_answer source _ _ _ _ (unbuilt p w a) (too_long h) = absurd (omega arith)
-one_answer source _ _ _ _ (unbuilt p w a) (unlexed status text v b) = absurd (unlexed-lexed source status text a.tokens b a.lexed)
-one_answer source _ _ _ _ (unbuilt p w a) (unparsed status text v b) = absurd (unparsed-read source status text (Unbuilt p) b a)
-one_answer source _ _ _ _ (unbuilt p w a) (unbuilt q v b) = let e = reads-same source (Unbuilt p) (Unbuilt q) a b in inl (refl, ap (λ (x : Pos). refused_text code.Unsupported x) (unbuilt-same p q e))
-one_answer source _ _ _ _ (unbuilt p w a) (report q v b) = let e = reads-same source (Unbuilt p) (Built q) a b in absurd (cc)
-one_answer source _ _ _ _ (report p w a) (too_long h) = absurd (omega arith)
-one_answer source _ _ _ _ (report p w a) (unlexed status text v b) = absurd (unlexed-lexed source status text a.tokens b a.lexed)
-one_answer source _ _ _ _ (report p w a) (unparsed status text v b) = absurd (unparsed-read source status text (Built p) b a)
-one_answer source _ _ _ _ (report p w a) (unbuilt q v b) = let e = reads-same source (Built p) (Unbuilt q) a b in absurd (cc)
-one_answer source _ _ _ _ (report p w a) (report q v b) =
-    let e = built-same p q (reads-same source (Built p) (Built q) a b) in
-    inl (ap (λ (x : Program). report_status x) e, ap (λ (x : Program). report_of x) e)
+unfolding One
+one_answer source status other text otherwise h k = ways_meet source status other text otherwise (way source status text h) (way source other otherwise k)
 
 -- an accepted source has its report for an answer
 pub accepted-answer : (source : List ℕ) (p : Program) (status : Status) (text : List ℕ) → IsWithin source → IsAccepted source p → SourceAnswer source status text → (status ≡ report_status p) × (text ≡ report_of p)

@@ -6,7 +6,7 @@ use Rattle.sa_base.specs.declared.status.Status.TheVariants as s
 use Rattle.sa_outside.specs.Causes.{Rose}
 use Rattle.sa_outside.specs.Files.{Files}
 use Rattle.sa_outside.specs.Writing.{Appends}
-use Rattle.sa_top.specs.declared.program.Program.{Program}
+use Rattle.sa_typed.specs.declared.program.Program.{Program}
 use Rattle.sa_top.specs.Accepted.{IsAccepted}
 use Rattle.sa_top.specs.Answer.{Answer, AsSource, Misses, name_of, named_answer, content_of, IsWithin, report_status, report_of}
 use Rattle.sa_top.specs.Top.{Answers, Wrote, WroteWhole, IsMissing, HoldsProgram, Stays, Reported}

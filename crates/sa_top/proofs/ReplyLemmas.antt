@@ -17,13 +17,24 @@ use Rattle.sa_parser.specs.declared.fault.ParseFault.{ParseFault}
 use Rattle.sa_parser.specs.declared.fault.ParseFault.TheVariants.{Syntax, TooDeep}
 use Rattle.sa_parser.specs.declared.fault.ParseFault.TheVariants as q
 use Rattle.sa_parser.specs.Faults.{IsFault}
-use Rattle.sa_top.specs.declared.program.Program.{Program}
+use Rattle.sa_base.specs.declared.refusal.Refusal.{Refusal}
+use Rattle.sa_base.specs.declared.refusal.Code.TheVariants as code
+use Rattle.sa_base.specs.declared.limit.Limit.{Limit}
+use Rattle.sa_base.specs.declared.limit.Limit.TheVariants.{Cells}
+use Rattle.sa_syntax.specs.declared.unit.Unit.{Unit as Tree}
+use Rattle.sa_syntax.specs.Refusals.{IsSource}
+use Rattle.sa_typed.specs.declared.program.Program.{Program}
+use Rattle.sa_typer.specs.declared.fault.TypeFault.{TypeFault}
+use Rattle.sa_typer.specs.declared.fault.TypeFault.TheVariants as u
+use Rattle.sa_typer.specs.Unbuilt.{first_unbuilt}
+use Rattle.sa_typer.specs.Units.{answer, Accepts, Refuses, TooManyCells}
+use Rattle.sa_typer.specs.Answers.{IsFault as IsTypeFault}
 use Rattle.sa_top.specs.declared.reply.Reply.{Reply}
-use Rattle.sa_top.specs.Accepted.{IsAccepted}
-use Rattle.sa_top.specs.Answer.{SourceAnswer, report, report_status, report_of, IsWithin, bad_byte, bad_number, open_comment, directive, too_many, no_tree, too_deep, too_long, unlexed, unparsed}
-use Rattle.sa_top.specs.Rejections.{by_tokens, by_parser, IsRejected}
+use Rattle.sa_top.specs.Accepted.{Unbuilt, Refused, TooLarge, Built, IsRead, IsAccepted, reading_of}
+use Rattle.sa_top.specs.Answer.{SourceAnswer, report, report_status, report_of, IsWithin, bad_byte, bad_number, open_comment, directive, too_many, no_tree, too_deep, too_long, unlexed, unparsed, unbuilt, refused, too_large}
+use Rattle.sa_top.specs.Rejections.{by_tokens, by_parser, by_typer, IsRejected}
 use Rattle.sa_top.specs.Reply.{IsAnswered}
-use Rattle.sa_top.specs.Report.{limit_text}
+use Rattle.sa_top.specs.Report.{limit_text, refused_text}
 use Rattle.sa_top.specs.Top.{IsTold}
 
 -- a file that was read whole is what is told of it
@@ -74,6 +85,42 @@ parser-fault source ts q.OutOfMemory w l h = tt
 -- of tokens and an end that are passed
 pub parser-rejected : (source : List ℕ) (ts us : List Token) (end : Pos) (fault : ParseFault) → IsWithin source → IsLexed source ts → us ≡ ts → end ≡ end_pos source → IsFault us end fault → IsRejected source (by_parser fault)
 parser-rejected source ts us end fault w l d e h = parser-fault source ts fault w l (subst (λ (x : Pos). IsFault ts x fault) e (subst (λ (x : List Token). IsFault x end fault) d h))
+
+-- ---- what a tree is read as
+reads-unbuilt : (source : List ℕ) (ts : List Token) (t : Tree) (p : Pos) → IsLexed source ts → IsSource ts t → first_unbuilt t ≡ Some p → IsRead source (Unbuilt p)
+unfolding reading_of
+reads-unbuilt source ts t p l h e = record { tokens = ts; tree = t; lexed = l; parsed = h; read = rw e refl }
+
+reads-built : (source : List ℕ) (ts : List Token) (t : Tree) (p : Program) → IsLexed source ts → IsSource ts t → first_unbuilt t ≡ None → answer t (end_pos source) ≡ Accepts p → IsAccepted source p
+unfolding reading_of
+reads-built source ts t p l h e a = record { tokens = ts; tree = t; lexed = l; parsed = h; read = rw (e, a) refl }
+
+reads-refused : (source : List ℕ) (ts : List Token) (t : Tree) (r : Refusal) → IsLexed source ts → IsSource ts t → first_unbuilt t ≡ None → answer t (end_pos source) ≡ Refuses r → IsRead source (Refused r)
+unfolding reading_of
+reads-refused source ts t r l h e a = record { tokens = ts; tree = t; lexed = l; parsed = h; read = rw (e, a) refl }
+
+reads-large : (source : List ℕ) (ts : List Token) (t : Tree) → IsLexed source ts → IsSource ts t → first_unbuilt t ≡ None → answer t (end_pos source) ≡ TooManyCells → IsRead source TooLarge
+unfolding reading_of
+reads-large source ts t l h e a = record { tokens = ts; tree = t; lexed = l; parsed = h; read = rw (e, a) refl }
+
+-- of tokens, a tree and an end that are passed
+module _ (source : List ℕ) (ts us : List Token) (t : Tree) (end : Pos) (w : IsWithin source) (l : IsLexed source ts) (d : us ≡ ts) (e : end ≡ end_pos source) (h : IsSource us t) where
+  tree : IsSource ts t
+  tree = subst (λ (x : List Token). IsSource x t) d h
+
+  pub unbuilt-rejected : (p : Pos) → first_unbuilt t ≡ Some p → SourceAnswer source s.SourceRefused (refused_text code.Unsupported p)
+  unbuilt-rejected p f = unbuilt p w (reads-unbuilt source ts t p l tree f)
+
+  pub typed-accepted : (p : Program) → first_unbuilt t ≡ None → answer t end ≡ Accepts p → IsAccepted source p
+  typed-accepted p f a = reads-built source ts t p l tree f (subst (λ (x : Pos). answer t x ≡ Accepts p) e a)
+
+  typed-fault : (fault : TypeFault) → first_unbuilt t ≡ None → IsTypeFault t (end_pos source) fault → IsRejected source (by_typer fault)
+  typed-fault (u.Refused r) f a = refused r w (reads-refused source ts t r l tree f a)
+  typed-fault (u.TooMany limit) f a = subst (λ (x : Limit). SourceAnswer source s.Limit (limit_text x)) (sym a.0) (too_large w (reads-large source ts t l tree f a.1))
+  typed-fault u.OutOfMemory f a = tt
+
+  pub typer-rejected : (fault : TypeFault) → first_unbuilt t ≡ None → IsTypeFault t end fault → IsRejected source (by_typer fault)
+  typer-rejected fault f a = typed-fault fault f (subst (λ (x : Pos). IsTypeFault t x fault) e a)
 
 pub report-fits : {E : Type 0} (source : List ℕ) (p : Program) (o : Result Reply E) → IsWithin source → IsAccepted source p → IfOk o (λ r. (r.status ≡ report_status p) × (r.text.items ≡ report_of p)) → IfOk o (λ r. SourceAnswer source r.status r.text.items)
 report-fits source p (Ok r) w i h = rw (h.0, h.1) (report p w i)

@@ -3,8 +3,9 @@ use Rattle.std.specs.Prelude.{ℕ, ◌≡◌, ◌<◌, ◌≤◌, ◌⊎◌, Lis
 use Rattle.std.specs.Str.{bytes_eq}
 use Rattle.sa_base.specs.declared.pos.Pos.{Pos}
 use Rattle.sa_base.specs.declared.alarm.Alarm.{Alarm}
+use Rattle.sa_base.specs.declared.refusal.Refusal.{Refusal}
 use Rattle.sa_base.specs.declared.refusal.Code.TheVariants as code
-use Rattle.sa_base.specs.declared.limit.Limit.TheVariants.{Source, Tokens, Nesting}
+use Rattle.sa_base.specs.declared.limit.Limit.TheVariants.{Source, Tokens, Nesting, Cells}
 use Rattle.sa_base.specs.Numbers.{limit_number}
 use Rattle.sa_base.specs.declared.status.Status.{Status}
 use Rattle.sa_base.specs.declared.status.Status.TheVariants as s
@@ -14,12 +15,12 @@ use Rattle.sa_tokens.specs.declared.fault.TokenFault.TheVariants.{BadByte, BadNu
 use Rattle.sa_tokens.specs.Lexed.{IsLexed, IsRefused, HasTooMany, end_pos}
 use Rattle.sa_parser.specs.declared.fault.ParseFault.TheVariants.{Syntax, TooDeep}
 use Rattle.sa_parser.specs.Faults.{IsFault}
-use Rattle.sa_top.specs.declared.program.Program.{Program}
-use Rattle.sa_top.specs.declared.reading.Reading.TheVariants.{Unbuilt}
-use Rattle.sa_top.specs.Accepted.{IsRead, IsAccepted}
-use Rattle.sa_top.specs.Alarms.{rising}
+use Rattle.sa_typed.specs.declared.program.Program.{Program}
+use Rattle.sa_report.specs.Alarms.{rising}
+use Rattle.sa_report.specs.Report.{report_text}
+use Rattle.sa_top.specs.Accepted.{IsRead, Unbuilt, Refused, TooLarge, IsAccepted}
 use Rattle.sa_top.specs.Sound.{found_of}
-use Rattle.sa_top.specs.Report.{report_text, refused_text, usage_text, limit_text}
+use Rattle.sa_top.specs.Report.{refused_text, usage_text, limit_text}
 
 -- ---- the answer to a source
 -- no alarms, or at least one
@@ -56,6 +57,8 @@ pub data SourceAnswer (source : List ℕ) : Status → List ℕ → Type 0 where
   unlexed : (status : Status) (text : List ℕ) → IsWithin source → HasNoTokens source status text → SourceAnswer source status text
   unparsed : (status : Status) (text : List ℕ) → IsWithin source → IsUnparsed source status text → SourceAnswer source status text
   unbuilt : (p : Pos) → IsWithin source → IsRead source (Unbuilt p) → SourceAnswer source s.SourceRefused (refused_text code.Unsupported p)
+  refused : (r : Refusal) → IsWithin source → IsRead source (Refused r) → SourceAnswer source s.SourceRefused (refused_text r.code r.pos)
+  too_large : IsWithin source → IsRead source TooLarge → SourceAnswer source s.Limit (limit_text Cells)
   report : (p : Program) → IsWithin source → IsAccepted source p → SourceAnswer source (report_status p) (report_of p)
 
 -- Two answers to one source are the same, unless it is unparsed.

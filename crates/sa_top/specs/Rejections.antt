@@ -7,6 +7,8 @@ use Rattle.sa_tokens.specs.declared.fault.TokenFault.{TokenFault}
 use Rattle.sa_tokens.specs.declared.fault.TokenFault.TheVariants as t
 use Rattle.sa_parser.specs.declared.fault.ParseFault.{ParseFault}
 use Rattle.sa_parser.specs.declared.fault.ParseFault.TheVariants as p
+use Rattle.sa_typer.specs.declared.fault.TypeFault.{TypeFault}
+use Rattle.sa_typer.specs.declared.fault.TypeFault.TheVariants as u
 use Rattle.sa_top.specs.declared.source.Rejection.{Rejection}
 use Rattle.sa_top.specs.declared.source.Rejection.TheVariants.{Refused, Above, NoMemory}
 use Rattle.sa_top.specs.Answer.{SourceAnswer}
@@ -24,6 +26,11 @@ abbrev pub by_parser : ParseFault → Rejection
 by_parser (p.Syntax at) = Refused (record { code = code.Syntax; pos = at })
 by_parser (p.TooDeep at) = Above Nesting
 by_parser p.OutOfMemory = NoMemory
+
+abbrev pub by_typer : TypeFault → Rejection
+by_typer (u.Refused r) = Refused r
+by_typer (u.TooMany l) = Above l
+by_typer u.OutOfMemory = NoMemory
 
 -- the line that a rejection is answered with is an answer to the source
 abbrev pub IsRejected : List ℕ → Rejection → Type 0

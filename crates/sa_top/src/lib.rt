@@ -1,36 +1,16 @@
-//! The top calls of the analyzer, and until they have crates of their own the programs, the analysis and the report.
+//! The top calls of the analyzer.
 //!
-//! It stands on values, tokens, trees, the parser, intervals and the outside. The layer above uses the contracts of `run`
-//! and `run_alone`: the bytes written are the answer's, the answer's report is sound and for a program that is held for sure
-//! comes whole, and each refusal has its cause. `specs/` is the trusted part: `Evaluation` and `Executions` know no interval,
-//! and nothing there knows the code. Keep the two apart: the code equals the reference analysis, and the reference analysis
-//! is sound.
+//! It stands on the whole of it: tokens, trees, typing, the analysis, reports and the outside. The layer above uses the
+//! contracts of `run` and `run_alone`: the bytes written are the answer's, the answer's report is sound and for a program that
+//! is held for sure comes whole, and each refusal has its cause. `specs/` is the trusted part here: which sources are accepted,
+//! what they are answered with, and what is true of a report. Nothing there knows the code.
 #![tactic(auto)]
 
-mod alarms;
-mod build;
-mod env;
 mod output;
-mod passes;
-mod program;
-mod reading;
 mod reply;
-mod report;
-mod scope;
-mod shown;
 mod source;
-mod stop;
-mod sums;
 mod top;
-mod turns;
-mod value;
-mod walk;
 
-pub use build::read_unit;
-pub use env::Flat;
-pub use passes::{Analysis, LoopFacts};
-pub use program::{Link, Op, Program, Stmt, Sum, Term};
-pub use reading::Reading;
 pub use top::{run, run_alone};
 
 #[cfg(test)]

@@ -3,23 +3,21 @@
 ghost use Rattle.std.specs.Prelude.{◌≡◌, ◌≢◌, ◌≤◌, ◌++◌, [], length, map, string_bytes, IfOk, IfErr, OnOk, Some, None, Err, IsTrue};
 ghost use Rattle.std.specs.Option.{option_map};
 ghost use Rattle.sa_outside.specs.Causes.{Rose};
-ghost use Rattle.sa_top.specs.Alarms.{rising};
+ghost use Rattle.sa_typed.specs.Cells.{cells};
+ghost use Rattle.sa_typed.specs.WellTyped.{IsTyped};
+ghost use Rattle.sa_report.specs.Alarms.{rising};
 ghost use Rattle.sa_top.specs.Answer.{name_of, verdict, report_status, report_of, SourceAnswer, HasText};
 ghost use Rattle.sa_top.specs.Reply.{Replies, RepliesUsage};
 ghost use Rattle.sa_top.specs.Report.{refused_text, usage_text, limit_text};
 ghost use Rattle.sa_top.specs.Top.{IsMissing, LacksFile};
 
-use crate::alarms::rising;
-use crate::passes::analyze;
-use crate::program::Program;
-use crate::report::report;
 use crate::source::{Rejection, read_source};
 use sa_base::{Alarm, Limit, OutOfMemory, Refusal, Status, Text};
+use sa_iterate::analyze;
 use sa_outside::{Shelf, ShelfError};
+use sa_report::{report, rising};
+use sa_typed::Program;
 use std::alloc::Global;
-
-/// The greatest value of the clock, where nobody says another: an hour of milliseconds.
-const MAX_CLOCK: u64 = 3_600_000;
 
 /// Why there is no text.
 #[derive(Clone, Copy, Debug)]
@@ -111,9 +109,11 @@ fn verdict(alarms: &[Alarm]) -> Status
 
 /// The report on a program.
 fn built_reply(alloc: Global, program: &Program) -> Result<Reply, OutOfMemory>
+    requires typed { IsTyped program.now }
+    requires small { length (cells program.now) ≤ 65536 }
     ensures { IfOk result (λ r. (r.status ≡ report_status program.now) × (r.text.items ≡ report_of program.now)) }
 {
-    let analysis = analyze(alloc, program, MAX_CLOCK)?;
+    let analysis = analyze(alloc, program)?;
     let alarms = rising(alloc, &analysis.alarms)?;
     let text = report(alloc, program, &analysis, &alarms)?;
     Ok(Reply {

@@ -1,15 +1,16 @@
 //! From the bytes of a source to its program.
 
 ghost use Rattle.std.specs.Prelude.{◌≤◌, IfOk, IfErr, length};
+ghost use Rattle.sa_typed.specs.Cells.{cells};
+ghost use Rattle.sa_typed.specs.WellTyped.{IsTyped};
 ghost use Rattle.sa_top.specs.Accepted.{IsAccepted};
 ghost use Rattle.sa_top.specs.Rejections.{IsRejected};
 
-use crate::build::read_unit;
-use crate::program::Program;
-use crate::reading::Reading;
 use sa_base::{Code, Limit, OutOfMemory, Refusal};
 use sa_parser::{ParseFault, parse};
 use sa_tokens::{TokenFault, end_of, tokens};
+use sa_typed::Program;
+use sa_typer::{TypeFault, first_unbuilt, type_unit};
 use std::alloc::Global;
 
 /// Why a source has no program.
@@ -60,6 +61,21 @@ impl From<ParseFault> for Rejection {
     }
 }
 
+impl From<TypeFault> for Rejection {
+    ghost use Rattle.std.specs.Prelude.{◌≡◌};
+    ghost use Rattle.sa_top.specs.Rejections.{by_typer};
+
+    ghost from_gives = { λ fault e. e ≡ by_typer fault };
+
+    fn from(fault: TypeFault) -> Self {
+        match fault {
+            TypeFault::Refused(refusal) => Rejection::Refused(refusal),
+            TypeFault::TooMany(limit) => Rejection::Above(limit),
+            TypeFault::OutOfMemory => Rejection::NoMemory,
+        }
+    }
+}
+
 impl From<OutOfMemory> for Rejection {
     ghost use Rattle.std.specs.Prelude.{◌≡◌};
     ghost use Rattle.sa_top.specs.declared.source.Rejection.TheVariants.{NoMemory};
@@ -75,16 +91,18 @@ impl From<OutOfMemory> for Rejection {
 pub fn read_source(alloc: Global, source: &[u8]) -> Result<Program, Rejection>
     requires { length source.now ≤ 4194304 }
     ensures accepted { IfOk result (IsAccepted source.now) }
+    ensures typed { IfOk result IsTyped }
+    ensures small { IfOk result (λ p. length (cells p) ≤ 65536) }
     ensures rejected { IfErr result (IsRejected source.now) }
 {
     let tokens = tokens(alloc, source)?;
     let end = end_of(source);
     let unit = parse(alloc, &tokens, end)?;
-    match read_unit(alloc, &unit, end)? {
-        Reading::Built(program) => Ok(program),
-        Reading::Unbuilt(pos) => Err(Rejection::Refused(Refusal {
+    if let Some(pos) = first_unbuilt(&unit) {
+        return Err(Rejection::Refused(Refusal {
             code: Code::Unsupported,
             pos,
-        })),
+        }));
     }
+    Ok(type_unit(alloc, &unit, end)?)
 }

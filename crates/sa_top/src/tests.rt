@@ -47,11 +47,41 @@ fn what_a_source_is_answered_with(rt: HostRuntime) -> Result<(), Fail> {
             "loop 3:3 passes 9\n  clock in [0, 3600000]\n  x in [0, 2147483647]\nalarm 4:11 overflow\nalarms 1\n",
         ),
         (
-            "int x; void main(void) { x = 1; while (1) { __ASTREE_wait_for_clock(()); } }",
-            Status::SourceRefused,
-            "source refused U1 1:26\n",
+            "volatile unsigned char u;\nint a[4];\nvoid main(void) {\n  while (1) {\n    a[u] = 7;\n    int q = 100 / u;\n    __ASTREE_wait_for_clock(());\n  }\n}\n",
+            Status::Alarmed,
+            "loop 4:3 passes 5\n  clock in [0, 3600000]\n  a[0] in [0, 7]\n  a[1] in [0, 7]\n  a[2] in [0, 7]\n  a[3] in [0, 7]\nalarm 5:6 index\nalarm 6:17 division\nalarms 2\n",
         ),
-        ("", Status::SourceRefused, "source refused U1 1:1\n"),
+        (
+            "int x; void main(void) { x = 1 / 0; while (1) { __ASTREE_wait_for_clock(()); } }",
+            Status::Alarmed,
+            "loop 1:37 not reached\nalarm 1:32 division\nalarms 1\n",
+        ),
+        (
+            "struct S { int a; int b[2]; } s, t; void main(void) { for (;;) { s = t; t.b[1] = 3; __ASTREE_wait_for_clock(()); } }",
+            Status::Clean,
+            "loop 1:55 passes 5\n  clock in [0, 3600000]\n  s.a in [0, 0]\n  s.b[0] in [0, 0]\n  s.b[1] in [0, 3]\n  t.a in [0, 0]\n  t.b[0] in [0, 0]\n  t.b[1] in [0, 3]\nalarms 0\n",
+        ),
+        (
+            "int x; void main(void) { x = 1; if (x) ; while (1) { __ASTREE_wait_for_clock(()); } }",
+            Status::SourceRefused,
+            "source refused U1 1:33\n",
+        ),
+        (
+            "int x = y; void main(void) { x = 1 && 2; }",
+            Status::SourceRefused,
+            "source refused U1 1:36\n",
+        ),
+        (
+            "struct S { int a; } s; struct T { int a; } t; void main(void) { while (1) { s = t; __ASTREE_wait_for_clock(()); } }",
+            Status::SourceRefused,
+            "source refused T7 1:79\n",
+        ),
+        (
+            "int a[128][128][4]; int b; void main(void) { while (1) { __ASTREE_wait_for_clock(()); } }",
+            Status::Limit,
+            "limit cells 65536\n",
+        ),
+        ("", Status::SourceRefused, "source refused T22 1:1\n"),
         (
             "int x = 0x",
             Status::SourceRefused,
@@ -134,7 +164,7 @@ fn what_a_long_source_is_answered_with(rt: HostRuntime) -> Result<(), Fail> {
         (
             [("int x = ", 1), ("(", 200), ("1", 1), (")", 200), (";", 1)].as_slice(),
             Status::SourceRefused,
-            "source refused U1 1:7\n",
+            "source refused T22 1:411\n",
         ),
     ];
     for (pieces, status, text) in cases {

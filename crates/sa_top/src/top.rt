@@ -3,7 +3,7 @@
 ghost use Rattle.std.specs.Prelude.{◌≡◌, ◌≢◌, ◌≤◌, map, string_bytes, IsTrue};
 ghost use Rattle.sa_base.specs.declared.status.Status.TheVariants.{ReadFault, WriteFault};
 ghost use Rattle.sa_outside.specs.Causes.{Rose};
-ghost use Rattle.sa_top.specs.declared.program.Program.{Program};
+ghost use Rattle.sa_typed.specs.declared.program.Program.{Program};
 ghost use Rattle.sa_top.specs.Accepted.{OneReading};
 ghost use Rattle.sa_top.specs.Answer.{name_of, HasText, OneAnswer};
 ghost use Rattle.sa_top.specs.Sound.{Sound, Short};

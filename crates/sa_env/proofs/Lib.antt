@@ -1,0 +1,15 @@
+pub mod ReachLemmas
+pub mod CellLemmas
+pub mod StructLemmas
+pub mod PlaceLemmas
+pub mod StepLemmas
+pub mod EnvLemmas
+pub mod SpreadLaws
+pub mod SlotLaws
+pub mod SizeLemmas
+pub mod RunLemmas
+pub mod SpotLemmas
+pub mod FieldLemmas
+pub mod GroundLemmas
+pub mod TypedLemmas
+pub mod SetLemmas

@@ -1,0 +1,31 @@
+use Rattle.std.proofs.Common.{◌≡◌, ◌∙◌, ◌+◌, ◌∷◌, [], ◌++◌, ap, sym, List, append_assoc, arith}
+use Rattle.std.specs.Prelude.{Option}
+use Rattle.sa_interval.specs.Span.{Span}
+use Rattle.sa_typed.specs.Layouts.{Layout, leaf}
+use Rattle.sa_env.specs.declared.slots.Base.{Base}
+use Rattle.sa_env.specs.declared.slots.Slot.{Slot}
+use Rattle.sa_env.specs.Slots.{slots_in, slot, or_zero}
+use Rattle.sa_env.specs.Spots.{base_layout, left, work, weight}
+use Rattle.sa_env.proofs.SlotLaws.{slots-leaf}
+use Rattle.sa_env.proofs.SpotLemmas.{values-spread, number-is, number-work}
+use Rattle.sa_env.proofs.slots.read_spot.Goals as goal
+
+pub returns-in_ok-push-in-Number-clause-slots : goal.returns-in_ok-push-in-Number-clause-slots
+returns-in_ok-push-in-Number-clause-slots c =
+    let p = c.args.program.now.structs in
+    let zs = c.args.values.now in
+    let e = c.args.spot.now.elements in
+    let todo = left p zs c.args.todo.now.items in
+    let out = c.args.out.now.items in
+    let is : c.leaf.result ∷ [] ≡ slots_in zs (base_layout p c.args.spot.now.base) e
+    = ap (λ (s : Slot). s ∷ []) c.leaf.ensures
+    ∙ ap (λ (o : Option Span). slot c.in-Number.num e.starred (or_zero o) ∷ []) (values-spread zs e.at e.more)
+    ∙ sym (slots-leaf zs c.in-Number.num e)
+    ∙ ap (λ (l : Layout). slots_in zs l e) (sym (number-is p c.args.spot.now.base c.in-Number.num c.in-Number.is)) in
+    ap (λ (l : List Slot). l ++ todo) c.in_ok-push-in-Number.ensures.items ∙ append_assoc out (c.leaf.result ∷ []) todo
+    ∙ ap (λ (l : List Slot). out ++ (l ++ todo)) is
+
+pub returns-in_ok-push-in-Number-clause-work : goal.returns-in_ok-push-in-Number-clause-work
+returns-in_ok-push-in-Number-clause-work c =
+    let w = ap work (number-is c.args.program.now.structs c.args.spot.now.base c.in-Number.num c.in-Number.is) ∙ number-work c.in-Number.num in
+    omega (arith, w)

@@ -1,0 +1,92 @@
+-- Objects that are still to be read for their cells, the next one last.
+use Rattle.std.specs.Prelude.{ℕ, zero, suc, ◌+◌, ◌*◌, ◌≡◌, ◌<◌, ℤ, List, [], ◌∷◌, ◌++◌, length, map, if◌then◌else◌, nat_le, nat_lt, true, false, Option, Some, None}
+use Rattle.sa_typed.specs.Layouts.{Layout, Layouts, leaf, row, fields, no_field, field, nums}
+use Rattle.sa_typed.specs.Cells.{most_elements, inner_cells, is_starred}
+use Rattle.sa_typed.specs.declared.shape.Shape.{Shape}
+use Rattle.sa_typed.specs.declared.shape.StructDef.{StructDef}
+use Rattle.sa_reference.specs.Environments.{initial_span}
+use Rattle.sa_env.specs.declared.slots.Base.{Base}
+use Rattle.sa_env.specs.declared.slots.Base.TheVariants as base
+use Rattle.sa_env.specs.declared.slots.Row.{Row}
+use Rattle.sa_env.specs.declared.slots.Spot.{Spot}
+use Rattle.sa_env.specs.declared.slots.Slot.{Slot}
+use Rattle.sa_env.specs.declared.slots.Ends.{Ends}
+use Rattle.sa_env.specs.declared.slots.Elements.{Elements}
+use Rattle.sa_env.specs.declared.slots.Arrays.{Arrays}
+use Rattle.sa_interval.specs.Span.{Span}
+use Rattle.sa_env.specs.Sizes.{among, capped, IsPlain}
+use Rattle.sa_env.specs.Slots.{slot, slots_in}
+
+-- the cells of an object from its first element on, with their initial values
+unfoldable pub all_slots : List ℤ → Layout → List Slot
+all_slots zs l = map (λ i. slot i.num (is_starred i.steps) (initial_span zs l i.steps 0)) (inner_cells l)
+
+unfoldable pub base_layout : List StructDef → Base → Layout
+base_layout structs (base.Number num) = leaf num
+base_layout structs (base.Struct k) = among structs (suc k) (Shape.Struct k)
+
+abbrev pub IsKnown : List StructDef → Base → Type 0
+IsKnown structs (base.Number num) = Unit {0}
+IsKnown structs (base.Struct k) = k < length structs
+
+abbrev pub AreKnown : List StructDef → List Spot → Type 0
+AreKnown structs [] = Unit {0}
+AreKnown structs (s ∷ ss) = IsKnown structs s.base × AreKnown structs ss
+
+abbrev pub spot_slots : List StructDef → List ℤ → Spot → List Slot
+spot_slots structs zs s = slots_in zs (base_layout structs s.base) s.elements
+
+unfoldable pub left : List StructDef → List ℤ → List Spot → List Slot
+left structs zs [] = []
+left structs zs (s ∷ ss) = left structs zs ss ++ spot_slots structs zs s
+
+-- how many steps it takes at most
+unfoldable mutual
+  pub work : Layout → ℕ
+  work (leaf num) = 1
+  work (row n l) = if nat_le n most_elements then n * work l else work l
+  work (fields ls) = suc (works ls)
+
+  pub works : Layouts → ℕ
+  works no_field = 0
+  works (field x l ls) = work l + works ls
+
+unfoldable pub weight : List StructDef → List Spot → ℕ
+weight structs [] = 0
+weight structs (s ∷ ss) = work (base_layout structs s.base) + weight structs ss
+
+-- ---- arrays around something
+-- the outermost first
+unfoldable pub rows : List ℕ → Layout → Layout
+rows [] l = l
+rows (n ∷ ns) l = row n (rows ns l)
+
+-- the innermost first, with the number of elements in each element
+unfoldable pub wound : List Row → Layout → Layout
+wound [] l = l
+wound (r ∷ rs) l = wound rs (row r.n l)
+
+abbrev pub HasWidths : List Row → Layout → Type 0
+HasWidths [] l = Unit {0}
+HasWidths (r ∷ rs) l = (r.width ≡ capped (length (nums l))) × HasWidths rs (row r.n l)
+
+-- the arrays around a shape, and how many elements it has
+pub record AreArrays (structs : List StructDef) (m : ℕ) (s : Shape) (a : Arrays) : Type 0 where
+  pub whole : among structs m s ≡ wound a.rows.items (among structs m a.inner.now)
+  pub widths : HasWidths a.rows.items (among structs m a.inner.now)
+  pub plain : IsPlain a.inner.now
+  pub counted : a.elements ≡ capped (length (nums (among structs m s)))
+
+-- what a shape that is no array is
+abbrev pub base_of : ℕ → Shape → Option Base
+base_of m (Shape.Scalar num) = Some (base.Number num)
+base_of m (Shape.Struct k) = if nat_lt k m then Some (base.Struct k) else None
+base_of m (Shape.Array' n e dim) = None
+
+-- ---- leaves
+abbrev pub ends_span : Ends → Span
+ends_span e = record { lo = e.lo; hi = e.hi }
+
+abbrev pub first_element : ℕ → Elements
+first_element zero = record { starred = false; at = []; more = true }
+first_element (suc n) = record { starred = false; at = 0 ∷ []; more = false }

@@ -1,0 +1,98 @@
+//! How many cells and elements shapes have.
+
+ghost use Rattle.std.specs.Prelude.{ℕ, ◌≡◌, ◌*◌, ◌<◌, length};
+ghost use Rattle.sa_typed.specs.declared.shape.Shape.TheVariants.{Struct};
+ghost use Rattle.sa_env.specs.Sizes.{cells_for, extent, extent_of, among, Covers, IsPlain};
+
+use crate::ground::Extent;
+use sa_typed::{Program, Shape};
+use sqlite_items::{Items, at};
+
+/// How many cells and elements a shape has, which may hold the first `structs` structures.
+pub(crate) fn shape_extent(
+    program: &Program,
+    table: &[Items<Extent>],
+    structs: usize,
+    shape: &Shape,
+) -> Extent
+    requires { Covers program.now.structs structs table.now }
+    ensures { result ≡ extent_of (among program.now.structs structs shape.now) }
+{
+    let mut each = Extent {
+        cells: 1,
+        elements: 1,
+    };
+    let mut inner = shape;
+    while let Shape::Array(element, n) = inner {
+        each = several(each, *n);
+        inner = element.get();
+    }
+    let one = plain_extent(program, table, structs, inner);
+    Extent {
+        cells: each.cells.saturating_mul(one.cells),
+        elements: each.elements.saturating_mul(one.elements),
+    }
+}
+
+/// An array of so many.
+fn several(each: Extent, n: u32) -> Extent
+    ensures { result ≡ extent (each.cells * cells_for n) (each.elements * n) }
+{
+    Extent {
+        cells: each.cells.saturating_mul(cells_for(n)),
+        elements: each.elements.saturating_mul(n as usize),
+    }
+}
+
+/// The cells of how many elements an array of so many has: one has those of all where there are more than 128.
+#[tactic(auto, unfolding(crate::specs::Sizes::cells_for))]
+fn cells_for(n: u32) -> usize
+    ensures { result ≡ cells_for n }
+{
+    if n <= 128 { n as usize } else { 1 }
+}
+
+/// How many cells and elements a number or a structure has.
+pub(crate) fn plain_extent(
+    program: &Program,
+    table: &[Items<Extent>],
+    structs: usize,
+    shape: &Shape,
+) -> Extent
+    requires table { Covers program.now.structs structs table.now }
+    requires plain { IsPlain shape.now }
+    ensures { result ≡ extent_of (among program.now.structs structs shape.now) }
+{
+    match shape {
+        Shape::Scalar(_) => Extent {
+            cells: 1,
+            elements: 1,
+        },
+        Shape::Struct(k) => struct_extent(program, table, structs, *k),
+        Shape::Array(..) => Extent {
+            cells: 0,
+            elements: 0,
+        },
+    }
+}
+
+/// How many cells and elements a structure has, if it is one of the first.
+fn struct_extent(program: &Program, table: &[Items<Extent>], structs: usize, k: u32) -> Extent
+    requires { Covers program.now.structs structs table.now }
+    ensures { result ≡ extent_of (among program.now.structs structs (Struct k)) }
+{
+    let none = Extent {
+        cells: 0,
+        elements: 0,
+    };
+    if structs <= k as usize {
+        return none;
+    }
+    let Some(fields) = at(table, k as usize) else {
+        return none;
+    };
+    match fields.as_slice().last() {
+        Some(whole) => *whole,
+        None => none,
+    }
+}

@@ -1,0 +1,4 @@
+mod FoundLemmas
+mod PassLemmas
+mod StraightLaws
+mod WalkLemmas

@@ -1,6 +1,0 @@
-use Rattle.sa_top.proofs.ScopeLemmas.{term_in-updated}
-use Rattle.sa_top.proofs.scope.note.Goals as goal
-
-pub returns-clause-ok : goal.returns-clause-ok
-returns-clause-ok c = λ w.
-    rw c.in_ok-from_slice.ensures.items at (term_in-updated c.in_ok-from_slice.field-0.items c.args.terms.now c.insert.new.self _ c.in_ok-insert.ensures.updates w)
