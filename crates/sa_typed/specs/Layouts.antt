@@ -3,7 +3,9 @@
 use Rattle.std.specs.Prelude.{ℕ, zero, suc, ◌+◌, ◌*◌, ◌==◌, List, [], ◌∷◌, ◌++◌, length, reverse, slice_get, if◌then◌else◌, Option, Some, None, nat_lt}
 use Rattle.sa_base.specs.declared.num.Num.{Num}
 use Rattle.sa_base.specs.declared.num.Num.TheVariants.{I32}
-use Rattle.sa_typed.specs.declared.shape.Shape.{Shape, end_of-Shape, more_of-Shape}
+use Rattle.sa_typed.specs.declared.shape.Plain.{Plain}
+use Rattle.sa_typed.specs.declared.shape.Plain.TheVariants as plain
+use Rattle.sa_typed.specs.declared.shape.Shape.{Shape}
 use Rattle.sa_typed.specs.declared.shape.FieldDef.{FieldDef}
 use Rattle.sa_typed.specs.declared.shape.StructDef.{StructDef}
 use Rattle.sa_typed.specs.declared.shape.Part.{Part}
@@ -22,11 +24,19 @@ mutual
     no_field : Layouts
     field : (name : List ℕ) → Layout → Layouts → Layouts
 
+-- arrays around something, the outermost first
+unfoldable pub rows : List ℕ → Layout → Layout
+rows [] l = l
+rows (n ∷ ns) l = row n (rows ns l)
+
+-- a type that is no array, given what structures are
+abbrev pub plain_layout : (ℕ → Layout) → Plain → Layout
+plain_layout structs (plain.Scalar num) = leaf num
+plain_layout structs (plain.Struct k) = structs k
+
 -- a shape, given what structures are
 unfoldable pub layout_with : (ℕ → Layout) → Shape → Layout
-layout_with structs (Shape.Scalar num) = leaf num
-layout_with structs (Shape.Struct k) = structs k
-layout_with structs (Shape.Array' n (more_of-Shape s end_of-Shape) dim) = row dim (layout_with structs s)
+layout_with structs s = rows s.dims (plain_layout structs s.plain)
 
 unfoldable pub layouts_with : (ℕ → Layout) → List FieldDef → Layouts
 layouts_with structs [] = no_field

@@ -19,5 +19,5 @@ pub use arithmetic::{
 pub use constants::{fixed_index, is_constant};
 pub use expr::{Access, Expr, Link, Operator, Prefix, Step};
 pub use program::{Func, Home, Input, Param, Place, Program, Var};
-pub use shape::{FieldDef, Part, Shape, StructDef};
+pub use shape::{FieldDef, Part, Plain, Shape, StructDef};
 pub use stmt::{Simple, Start, Stmt};

@@ -1,16 +1,22 @@
 //! What a variable is made of.
 
 use sa_base::{Num, Text};
-use sqlite_items::{Boxed, Items};
+use sqlite_items::Items;
 
-/// The type of an object, apart from its qualifiers.
-#[derive(Drop)]
-pub enum Shape {
+/// A type that is no array.
+#[derive(Clone, Copy, Debug, PartialEq, Eq)]
+pub enum Plain {
     Scalar(Num),
     /// A structure, by its number.
     Struct(u32),
-    /// The elements' shape, and how many there are.
-    Array(Boxed<Shape>, u32),
+}
+
+/// The type of an object, apart from its qualifiers: how many elements there are in each dimension, the outermost first, and
+/// of what type the innermost ones are. Where it is no array there is no dimension.
+#[derive(Drop)]
+pub struct Shape {
+    pub dims: Items<u32>,
+    pub plain: Plain,
 }
 
 /// A step into an object.
