@@ -26,7 +26,7 @@ use Rattle.sa_syntax.specs.Refusals.{IsSource}
 use Rattle.sa_typed.specs.declared.program.Program.{Program}
 use Rattle.sa_typer.specs.declared.fault.TypeFault.{TypeFault}
 use Rattle.sa_typer.specs.declared.fault.TypeFault.TheVariants as u
-use Rattle.sa_typer.specs.Unbuilt.{first_unbuilt}
+use Rattle.sa_unbuilt.specs.Unbuilt.{first_unbuilt}
 use Rattle.sa_typer.specs.Units.{answer, Accepts, Refuses, TooManyCells}
 use Rattle.sa_typer.specs.Answers.{IsFault as IsTypeFault}
 use Rattle.sa_top.specs.declared.reply.Reply.{Reply}

@@ -17,7 +17,7 @@ use Rattle.sa_typed.specs.WellTyped.{IsTyped}
 use Rattle.sa_typed.specs.declared.program.Input.{Input}
 use Rattle.sa_typed.specs.declared.program.Program.{Program}
 use Rattle.sa_typer.specs.Units.{Answer, Accepts, Refuses, TooManyCells, answer}
-use Rattle.sa_typer.specs.Unbuilt.{first_unbuilt}
+use Rattle.sa_unbuilt.specs.Unbuilt.{first_unbuilt}
 use Rattle.sa_typer.proofs.UnitLaws.{accepted_typed}
 use Rattle.sa_reference.specs.declared.flat.Flat.{Flat}
 use Rattle.sa_reference.specs.Environments.{AllHold, Holds}

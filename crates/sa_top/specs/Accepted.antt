@@ -7,7 +7,7 @@ use Rattle.sa_tokens.specs.Lexed.{IsLexed, end_pos}
 use Rattle.sa_syntax.specs.declared.unit.Unit.{Unit as Source}
 use Rattle.sa_syntax.specs.Refusals.{IsSource}
 use Rattle.sa_typed.specs.declared.program.Program.{Program}
-use Rattle.sa_typer.specs.Unbuilt.{first_unbuilt}
+use Rattle.sa_unbuilt.specs.Unbuilt.{first_unbuilt}
 use Rattle.sa_typer.specs.Units.{Answer, Accepts, Refuses, TooManyCells, answer}
 
 -- what a tree is read as: a form that isn't built yet, and where it begins, before all that typing says

@@ -10,7 +10,8 @@ use sa_base::{Code, Limit, OutOfMemory, Refusal};
 use sa_parser::{ParseFault, parse};
 use sa_tokens::{TokenFault, end_of, tokens};
 use sa_typed::Program;
-use sa_typer::{TypeFault, first_unbuilt, type_unit};
+use sa_typer::{TypeFault, type_unit};
+use sa_unbuilt::first_unbuilt;
 use std::alloc::Global;
 
 /// Why a source has no program.

@@ -12,7 +12,6 @@ pub mod InitRows
 pub mod StmtRows
 pub mod BodyLemmas
 pub mod UnitLemmas
-pub mod UnbuiltLemmas
 pub mod StructLaws
 pub mod RowLaws
 pub mod WalkLaws

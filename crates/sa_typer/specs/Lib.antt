@@ -16,4 +16,3 @@ pub mod Statements
 pub mod Bodies
 pub mod Units
 pub mod Answers
-pub mod Unbuilt

@@ -20,9 +20,7 @@ mod statement;
 mod structs;
 mod typer;
 mod types;
-mod unbuilt;
 mod unit;
 
 pub use fault::TypeFault;
-pub use unbuilt::first_unbuilt;
 pub use unit::type_unit;

@@ -6,8 +6,8 @@ ghost use Rattle.std.specs.Prelude.{◌≡◌, codes};
 ghost use Rattle.std.specs.List.{list_any};
 ghost use Rattle.std.specs.Str.{bytes_eq};
 ghost use Rattle.std.specs.Result.{result_err};
-ghost use Rattle.sa_typer.specs.Unbuilt as spec;
-ghost use Rattle.sa_typer.specs.Unbuilt.{first_in};
+ghost use Rattle.sa_unbuilt.specs.Unbuilt as spec;
+ghost use Rattle.sa_unbuilt.specs.Unbuilt.{first_in};
 
 use sa_base::Pos;
 use sa_syntax::{
@@ -28,7 +28,7 @@ fn check_operator(op: Operator, pos: Pos) -> Result<(), Pos>
 }
 
 #[cycle(trees)]
-#[tactic(auto, using(crate::proofs::UnbuiltLemmas::of_exprs))]
+#[tactic(auto, using(crate::proofs::FormLemmas::of_exprs))]
 fn check_expr(e: &Expr) -> Result<(), Pos>
     ensures { result_err result ≡ spec.in_expr e.now }
 {
@@ -53,7 +53,7 @@ fn check_expr(e: &Expr) -> Result<(), Pos>
 }
 
 #[cycle(trees)]
-#[tactic(auto, using(crate::proofs::UnbuiltLemmas::of_lists))]
+#[tactic(auto, using(crate::proofs::FormLemmas::of_lists))]
 fn check_links(links: &[Link]) -> Result<(), Pos>
     ensures { result_err result ≡ first_in spec.in_link links.now }
 {
@@ -79,7 +79,7 @@ fn check_place(place: &Place) -> Result<(), Pos>
 }
 
 #[cycle(trees)]
-#[tactic(auto, using(crate::proofs::UnbuiltLemmas::of_lists))]
+#[tactic(auto, using(crate::proofs::FormLemmas::of_lists))]
 fn check_steps(steps: &[Step]) -> Result<(), Pos>
     ensures { result_err result ≡ first_in spec.in_step steps.now }
 {
@@ -90,7 +90,7 @@ fn check_steps(steps: &[Step]) -> Result<(), Pos>
 }
 
 #[cycle(trees)]
-#[tactic(auto, using(crate::proofs::UnbuiltLemmas::of_steps))]
+#[tactic(auto, using(crate::proofs::FormLemmas::of_steps))]
 fn check_step(step: &Step) -> Result<(), Pos>
     ensures { result_err result ≡ spec.in_step step.now }
 {
@@ -112,7 +112,7 @@ fn check_specifiers(ty: &Specifiers) -> Result<(), Pos>
 }
 
 #[cycle(trees)]
-#[tactic(auto, using(crate::proofs::UnbuiltLemmas::struct_fields))]
+#[tactic(auto, using(crate::proofs::FormLemmas::struct_fields))]
 fn check_struct(body: &Struct) -> Result<(), Pos>
     ensures { result_err result ≡ spec.in_struct body.now }
 {
@@ -120,7 +120,7 @@ fn check_struct(body: &Struct) -> Result<(), Pos>
 }
 
 #[cycle(trees)]
-#[tactic(auto, using(crate::proofs::UnbuiltLemmas::of_lists))]
+#[tactic(auto, using(crate::proofs::FormLemmas::of_lists))]
 fn check_fields(fields: &[Field]) -> Result<(), Pos>
     ensures { result_err result ≡ first_in spec.in_field fields.now }
 {
@@ -131,7 +131,7 @@ fn check_fields(fields: &[Field]) -> Result<(), Pos>
 }
 
 #[cycle(trees)]
-#[tactic(auto, using(crate::proofs::UnbuiltLemmas::field_declrs))]
+#[tactic(auto, using(crate::proofs::FormLemmas::field_declrs))]
 fn check_field(field: &Field) -> Result<(), Pos>
     ensures { result_err result ≡ spec.in_field field.now }
 {
@@ -140,7 +140,7 @@ fn check_field(field: &Field) -> Result<(), Pos>
 }
 
 #[cycle(trees)]
-#[tactic(auto, using(crate::proofs::UnbuiltLemmas::of_lists))]
+#[tactic(auto, using(crate::proofs::FormLemmas::of_lists))]
 fn check_declrs(declrs: &[Declr]) -> Result<(), Pos>
     ensures { result_err result ≡ first_in spec.in_declr declrs.now }
 {
@@ -151,7 +151,7 @@ fn check_declrs(declrs: &[Declr]) -> Result<(), Pos>
 }
 
 #[cycle(trees)]
-#[tactic(auto, using(crate::proofs::UnbuiltLemmas::declr_bounds))]
+#[tactic(auto, using(crate::proofs::FormLemmas::declr_bounds))]
 fn check_declr(declr: &Declr) -> Result<(), Pos>
     ensures { result_err result ≡ spec.in_declr declr.now }
 {
@@ -159,7 +159,7 @@ fn check_declr(declr: &Declr) -> Result<(), Pos>
 }
 
 #[cycle(trees)]
-#[tactic(auto, using(crate::proofs::UnbuiltLemmas::of_lists))]
+#[tactic(auto, using(crate::proofs::FormLemmas::of_lists))]
 fn check_bounds(bounds: &[Bound]) -> Result<(), Pos>
     ensures { result_err result ≡ first_in spec.in_bound bounds.now }
 {
@@ -172,7 +172,7 @@ fn check_bounds(bounds: &[Bound]) -> Result<(), Pos>
 // ---- initialisers
 
 #[cycle(initialisers)]
-#[tactic(auto, using(crate::proofs::UnbuiltLemmas::of_inits))]
+#[tactic(auto, using(crate::proofs::FormLemmas::of_inits))]
 fn check_init(init: &Init) -> Result<(), Pos>
     ensures { result_err result ≡ spec.in_init init.now }
 {
@@ -183,7 +183,7 @@ fn check_init(init: &Init) -> Result<(), Pos>
 }
 
 #[cycle(initialisers)]
-#[tactic(auto, using(crate::proofs::UnbuiltLemmas::of_lists))]
+#[tactic(auto, using(crate::proofs::FormLemmas::of_lists))]
 fn check_inits(inits: &[Init]) -> Result<(), Pos>
     ensures { result_err result ≡ first_in spec.in_init inits.now }
 {
@@ -210,7 +210,7 @@ fn check_init_declr(declr: &InitDeclr) -> Result<(), Pos>
     check_start(&declr.start)
 }
 
-#[tactic(auto, using(crate::proofs::UnbuiltLemmas::of_lists))]
+#[tactic(auto, using(crate::proofs::FormLemmas::of_lists))]
 fn check_init_declrs(declrs: &[InitDeclr]) -> Result<(), Pos>
     ensures { result_err result ≡ first_in spec.in_init_declr declrs.now }
 {
@@ -238,7 +238,7 @@ fn check_local_declr(declr: &LocalDeclr) -> Result<(), Pos>
     check_local_start(&declr.start)
 }
 
-#[tactic(auto, using(crate::proofs::UnbuiltLemmas::of_lists))]
+#[tactic(auto, using(crate::proofs::FormLemmas::of_lists))]
 fn check_local_declrs(declrs: &[LocalDeclr]) -> Result<(), Pos>
     ensures { result_err result ≡ first_in spec.in_local_declr declrs.now }
 {
@@ -306,7 +306,7 @@ fn check_directive(directive: &Directive, pos: Pos) -> Result<(), Pos>
 
 /// A statement that doesn't stand directly in main's block: no loop is built there.
 #[cycle(statements)]
-#[tactic(auto, using(crate::proofs::UnbuiltLemmas::of_stmts))]
+#[tactic(auto, using(crate::proofs::FormLemmas::of_stmts))]
 fn check_stmt(stmt: &Stmt) -> Result<(), Pos>
     ensures { result_err result ≡ spec.in_stmt stmt.now }
 {
@@ -332,7 +332,7 @@ fn check_stmt(stmt: &Stmt) -> Result<(), Pos>
 }
 
 #[cycle(statements)]
-#[tactic(auto, using(crate::proofs::UnbuiltLemmas::of_items))]
+#[tactic(auto, using(crate::proofs::FormLemmas::of_items))]
 fn check_item(item: &BlockItem) -> Result<(), Pos>
     ensures { result_err result ≡ spec.in_item item.now }
 {
@@ -343,7 +343,7 @@ fn check_item(item: &BlockItem) -> Result<(), Pos>
 }
 
 #[cycle(statements)]
-#[tactic(auto, using(crate::proofs::UnbuiltLemmas::of_lists))]
+#[tactic(auto, using(crate::proofs::FormLemmas::of_lists))]
 fn check_items(items: &[BlockItem]) -> Result<(), Pos>
     ensures { result_err result ≡ first_in spec.in_item items.now }
 {
@@ -376,7 +376,7 @@ fn is_wait(item: &BlockItem) -> bool
     matches!(item, BlockItem::Stmt(Stmt::Directive(_, Directive::Wait)))
 }
 
-#[tactic(auto, using(crate::proofs::UnbuiltLemmas::of_ends))]
+#[tactic(auto, using(crate::proofs::FormLemmas::of_ends))]
 fn ends_with_wait(items: &[BlockItem]) -> bool
     ensures { result ≡ spec.ends_with_wait items.now }
 {
@@ -433,7 +433,7 @@ fn check_main_item(item: &BlockItem) -> Result<(), Pos>
     }
 }
 
-#[tactic(auto, using(crate::proofs::UnbuiltLemmas::of_lists))]
+#[tactic(auto, using(crate::proofs::FormLemmas::of_lists))]
 fn check_main_items(items: &[BlockItem]) -> Result<(), Pos>
     ensures { result_err result ≡ first_in spec.in_main_item items.now }
 {
@@ -494,7 +494,7 @@ fn check_top(item: &Item) -> Result<(), Pos>
     }
 }
 
-#[tactic(auto, using(crate::proofs::UnbuiltLemmas::of_lists))]
+#[tactic(auto, using(crate::proofs::FormLemmas::of_lists))]
 fn check_tops(items: &[Item]) -> Result<(), Pos>
     ensures { result_err result ≡ first_in spec.in_top items.now }
 {

@@ -1,6 +1,6 @@
 use Rattle.std.proofs.Common.{◌≡◌, drop}
-use Rattle.sa_typer.specs.Unbuilt.{first_in, in_link, in_step, in_field, in_declr, in_bound}
-use Rattle.sa_typer.proofs.unbuilt.+trees.Given as goal
+use Rattle.sa_unbuilt.specs.Unbuilt.{first_in, in_link, in_step, in_field, in_declr, in_bound}
+use Rattle.sa_unbuilt.proofs.forms.+trees.Given as goal
 
 abbrev pub invariant-check_bounds-loop-bound : goal.invariant-check_bounds-loop-bound
 invariant-check_bounds-loop-bound l = first_in in_bound l.bounds ≡ first_in in_bound (drop l.bound-index l.bounds)
