@@ -1,7 +1,9 @@
-ghost use Rattle.std.specs.Prelude.{None, false, ◌≡◌, ◌<◌, ◌≤◌, ◌+◌, [], IfOk, OnOk, length, vec_len};
+ghost use Rattle.std.specs.Prelude.{None, false, ◌≡◌, ◌<◌, ◌≤◌, ◌+◌, [], Err, IfOk, IfErr, IfSome, OnOk, OnErr, length, take, vec_len};
 ghost use Rattle.std.specs.Io.{StartsWith, appended_bytes};
-ghost use Rattle.std.specs.Io.KnownBytes.{Consumes, IsAtEnd};
-ghost use Rattle.sa_outside.specs.Reading.{StopsAtLimit};
+ghost use Rattle.std.specs.Io.KnownBytes.{Appends, Consumes, IsAtEnd};
+ghost use Rattle.sa_outside.specs.Reading.{StopsAtLimit, FailsByFault};
+ghost use Rattle.sa_outside.specs.Causes.{Rose};
+ghost use Rattle.sa_outside.specs.Writing.{IsCount};
 ghost use Rattle.sa_program.specs.Reads.{FitsReader};
 
 use sa_base::Text;
@@ -44,27 +46,42 @@ impl<R: Files> Shelf for RealShelf<'_, R> {
         limit: u64,
         buf: &mut Vec<u8>,
     ) -> Result<(), ShelfError> {
-        let result = read_file(self.rt, name.bytes(), limit, buf);
-        if result == Err(ShelfError::Failed) {
-            self.faults = self.faults.saturating_add(1);
-        }
-        result
+        read_counted(opened(self.rt, name.bytes()), &mut self.faults, limit, buf)
     }
 }
 
-/// Appends the file at that path. A path that isn't UTF-8 names none.
-fn read_file<R: Files>(rt: &R, path: &[u8], limit: u64, buf: &mut Vec<u8>) -> Result<(), ShelfError>
+/// The file at that path, if it can be opened. A path that isn't UTF-8 names none.
+fn opened<R: Files>(rt: &R, path: &[u8]) -> Option<R::File> {
+    match str::from_utf8(path) {
+        Ok(path) => File::open(rt, path).ok(),
+        Err(_) => None,
+    }
+}
+
+/// Appends what the file has left, where there is one, and counts a failure as a fault.
+fn read_counted<F: Read + Drop>(
+    file: Option<F>,
+    faults: &mut u64,
+    limit: u64,
+    buf: &mut Vec<u8>,
+) -> Result<(), ShelfError>
     requires { buf.old.items ≡ [] }
     ensures within { OnOk result (length buf.new.items ≤ limit) }
     ensures at_limit { StopsAtLimit limit result buf.new.items }
+    ensures told { IfSome file (λ f. FitsReader (F.remaining f) limit result buf.new.items) }
+    ensures missing { file ≡ None → (result ≡ Err ShelfError.Failed) × (buf.new.items ≡ []) }
+    ensures count { faults.old ≤ faults.new }
+    ensures cause { FailsByFault faults.old faults.new result }
+    ensures kept { OnOk result (faults.new ≡ faults.old) }
 {
-    let Ok(path) = str::from_utf8(path) else {
-        return Err(ShelfError::Failed);
+    let result = match file {
+        Some(mut file) => read_to_limit(&mut file, limit, buf),
+        None => Err(ShelfError::Failed),
     };
-    match File::open(rt, path) {
-        Ok(mut file) => read_to_limit(&mut file, limit, buf),
-        Err(_) => Err(ShelfError::Failed),
+    if result == Err(ShelfError::Failed) {
+        *faults = faults.saturating_add(1);
     }
+    result
 }
 
 /// Appends what the file has left, and reads one byte past the limit at most.
@@ -134,12 +151,25 @@ impl<R: Print> Sink for RealSink<'_, R> {
     ghost faults = { λ s. s.faults };
 
     fn write(&mut self, bytes: &[u8]) -> Result<usize, SinkFailed> {
-        match io::writer(self.rt).write(bytes) {
-            Ok(n) if 0 < n => Ok(n),
-            _ => {
-                self.faults = self.faults.saturating_add(1);
-                Err(SinkFailed)
-            }
+        write_counted(&mut io::writer(self.rt), &mut self.faults, bytes)
+    }
+}
+
+/// Writes at least one byte from the front, and answers how many; a write that takes nothing is counted as a fault.
+fn write_counted<W: Write>(to: &mut W, faults: &mut u64, bytes: &[u8]) -> Result<usize, SinkFailed>
+    requires { 0 < length bytes.now }
+    ensures some { IfOk result (IsCount bytes.now) }
+    ensures taken { IfOk result (λ n. Appends (W.contents to.old) (W.contents to.new) (take n bytes.now)) }
+    ensures nothing { IfErr result (λ _. Appends (W.contents to.old) (W.contents to.new) []) }
+    ensures count { faults.old ≤ faults.new }
+    ensures cause { OnErr result (Rose faults.old faults.new) }
+    ensures kept { OnOk result (faults.new ≡ faults.old) }
+{
+    match to.write(bytes) {
+        Ok(n) if 0 < n => Ok(n),
+        _ => {
+            *faults = faults.saturating_add(1);
+            Err(SinkFailed)
         }
     }
 }
