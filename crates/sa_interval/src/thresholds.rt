@@ -186,4 +186,30 @@ mod tests {
         }
         Ok(())
     }
+
+    #[test]
+    fn a_bound_stops_at_one_of_thousands(rt: HostRuntime) -> Result<(), Fail> {
+        let mut values = Vec::new(rt.alloc());
+        for k in 0..10_000u64 {
+            values.push(100_000 + 10 * k)?;
+        }
+        let thresholds = Thresholds::make(rt.alloc(), &values)?;
+        for (z, at) in [
+            (99_999, 100_000),
+            (100_001, 100_010),
+            (199_990, 199_990),
+            (199_991, 2_147_483_647),
+        ] {
+            assert_eq!(rt; stop(&thresholds, z), Some(at));
+            assert_eq!(rt;
+                stop(&thresholds, -z),
+                Some(if at < 2_147_483_647 {
+                    -at
+                } else {
+                    -2_147_483_648
+                })
+            );
+        }
+        Ok(())
+    }
 }

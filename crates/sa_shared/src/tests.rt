@@ -117,3 +117,27 @@ fn compacts_two_roots(rt: HostRuntime) -> Result<(), Fail> {
     );
     Ok(())
 }
+
+/// As many slots as an analysis has cells at most, all of them 7.
+fn large(alloc: Global) -> Result<(Frozen<u32>, Root), AllocError>
+    ensures slots { IfOk result (λ made. made.0.slots ≡ 65536) }
+    ensures root { IfOk result (λ made. Belongs ⟦<u32 as Slot>⟧.like made.0 made.1) }
+{
+    Frozen::of(vec![in alloc; 7; 65_536]?)
+}
+
+#[test]
+fn sets_and_compacts_a_large_list(rt: HostRuntime) -> Result<(), Fail> {
+    let (base, root) = large(rt.alloc())?;
+    let mut layer = Layer::over(&base);
+    let first = layer.set(root, 0, 8)?;
+    let last = layer.set(root, 65_535, 9)?;
+    let both = joined(&mut layer, first, last)?;
+    let (kept, roots) = layer.compact(&[both])?;
+    let again = Layer::over(&kept);
+    for (slot, value) in [(0, 8), (1, 7), (32_768, 7), (65_534, 7), (65_535, 9)] {
+        assert_eq!(rt; *again.get(roots[0], slot), value);
+        assert_eq!(rt; *layer.get(root, slot), 7);
+    }
+    Ok(())
+}
