@@ -13,7 +13,7 @@ use Rattle.sa_typed.specs.declared.shape.Part.TheVariants as part
 use Rattle.sa_typed.specs.declared.stmt.Simple.{Simple}
 use Rattle.sa_typed.specs.declared.stmt.Simple.TheVariants.{Assign}
 use Rattle.sa_typed.specs.Evaluation.{Value, Gives, Stops, Error, Store, Setting, Here, place_of, eval, steps_value, step_value, links_value, read_place}
-use Rattle.sa_typed.specs.Executions.{simple_value, stored}
+use Rattle.sa_typed.specs.Executions.{simple_value, strong_update}
 use Rattle.sa_typed.specs.Arithmetic.{operate, divided}
 
 abbrev bracket : Pos
@@ -48,6 +48,6 @@ unfolding simple_value read_place steps_value step_value eval links_value operat
 then_division p w here = refl
 
 -- `b[u] = u;`, of an input u, reads the number of the index first
-index_reads_first : (p : Program) (here : Here) (st : Store) → simple_value p (record { inputs = record { lo = pos 0; hi = pos 255 } ∷ []; max_clock = pos 10 }) here (Assign (element (e.Input 0 U8)) I32 equals (e.Input 0 U8)) st (pos 1 ∷ pos 7 ∷ []) ≡ Gives (stored (place_of here 0 (part.At 1 ∷ [])) (pos 7) st) []
+index_reads_first : (p : Program) (here : Here) (st : Store) → simple_value p (record { inputs = record { lo = pos 0; hi = pos 255 } ∷ []; max_clock = pos 10 }) here (Assign (element (e.Input 0 U8)) I32 equals (e.Input 0 U8)) st (pos 1 ∷ pos 7 ∷ []) ≡ Gives (strong_update (place_of here 0 (part.At 1 ∷ [])) (pos 7) st) []
 unfolding simple_value read_place steps_value step_value eval Rattle.sa_typed.specs.declared.expr.Expr.TheBlock.hidden-the_row-Step-0 denote.Hole.Carrier.hidden Rattle.sa_typed.specs.declared.expr.Expr.TheBlock.hidden-the_row-Expr-1 Rattle.sa_typed.specs.Arithmetic.in_type
 index_reads_first p here st = refl

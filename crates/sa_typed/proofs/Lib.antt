@@ -2,3 +2,4 @@ pub mod ArithmeticLaws
 mod EvaluationSamples
 pub mod LinkLaws
 mod Sample
+pub mod ProgressLaws
