@@ -1,5 +1,5 @@
 -- What statements do, computed on samples: which of two errors comes first, and in which order numbers are read.
-use Rattle.std.proofs.Common.{◌≡◌, ℤ, pos, List, [], ◌∷◌, refl}
+use Rattle.std.proofs.Common.{◌≡◌, pos, [], ◌∷◌, refl}
 use Rattle.sa_base.specs.declared.alarm.Kind.TheVariants.{Index, Division}
 use Rattle.sa_base.specs.declared.num.Num.TheVariants.{I32, U8}
 use Rattle.sa_base.specs.declared.pos.Pos.{Pos}
@@ -10,9 +10,8 @@ use Rattle.sa_typed.specs.declared.expr.Operator.TheVariants as o
 use Rattle.sa_typed.specs.declared.expr.Step.TheVariants as step
 use Rattle.sa_typed.specs.declared.program.Program.{Program}
 use Rattle.sa_typed.specs.declared.shape.Part.TheVariants as part
-use Rattle.sa_typed.specs.declared.stmt.Simple.{Simple}
 use Rattle.sa_typed.specs.declared.stmt.Simple.TheVariants.{Assign}
-use Rattle.sa_typed.specs.Evaluation.{Value, Gives, Stops, Error, Store, Setting, Here, place_of, eval, steps_value, step_value, links_value, read_place}
+use Rattle.sa_typed.specs.Evaluation.{Gives, Stops, Error, Store, Setting, Here, place_of, eval, steps_value, step_value, links_value, read_place}
 use Rattle.sa_typed.specs.Executions.{simple_value, strong_update}
 use Rattle.sa_typed.specs.Arithmetic.{operate, divided}
 

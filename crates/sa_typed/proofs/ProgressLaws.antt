@@ -1,5 +1,5 @@
 -- Executions go on: what an evaluation, a statement and a turn take of the tape, and why each may end.
-use Rattle.std.proofs.Common.{◌≡◌, ℕ, ◌+◌, ◌*◌, ◌≤◌, ◌<◌, zero, suc, ℤ, pos, ◌+ℤ◌, true, false, List, [], ◌∷◌, ◌++◌, length, length-append, refl, ap, sym, subst, ◌∙◌, arith, ◌⊎◌, inl, inr}
+use Rattle.std.proofs.Common.{◌≡◌, ℕ, ◌+◌, ◌*◌, ◌≤◌, ◌<◌, zero, suc, ℤ, pos, ◌+ℤ◌, true, false, List, [], ◌∷◌, ◌++◌, length, length-append, refl, ap, sym, subst, ◌∙◌, arith, inl, inr}
 use Rattle.std.proofs.lemmas.Int.{ints}
 use Rattle.std.proofs.Math.Nat.{mul-le-mul_left, mul-suc, mul-zero}
 use Rattle.std.specs.Prelude.{Bool, ◌&&◌, if◌then◌else◌, min, unsigned_abs, Result as Either, Ok, Err}
@@ -13,11 +13,10 @@ use Rattle.sa_base.specs.declared.pos.Pos.{Pos}
 use Rattle.sa_typed.specs.Arithmetic.{operate, prefixed, converted, is_of}
 use Rattle.sa_typed.specs.Layouts.{nums, layout_of, num_in}
 use Rattle.sa_typed.specs.Evaluation.{End, Error, Clock, Blocked, Tape, Going, Value, Gives, Stops, then_value, given, Store, Range, Setting, Here, is_in, range_of, read, checked_index, place_of, eval, links_value, steps_value, step_value, read_place, access_place}
-use Rattle.sa_typed.specs.Executions.{Loop, Visit, Run, State, Result, Goes, Breaks, Over, Turn, Again, Leaves, Ended, with_value, with_store, here_in, any_numbers, simple_value, declare_value, then_state, then_again, visit_with, turns, run, run_all, wait, clock_turn, main_of, start, ended, execution, initial_of, converted_value, compound_value, filled, strong_update, copied}
-use Rattle.sa_typed.specs.Progress.{HasNoLoop, HaveNoLoop, IsEnd, EndsInClock, EndInClock, reads, links_reads, steps_reads, step_reads, place_reads, access_reads, start_reads, simple_reads, stmt_reads, all_reads, takes, links_take, steps_take, step_takes, place_takes, access_takes, is_of_all, start_takes, simple_takes, stmt_takes, all_take, SomeFails, AreTurns, Causes, Lasts, IsNoError, IsOver, HasVisits, GoesOn, IsUnbroken}
+use Rattle.sa_typed.specs.Executions.{Loop, Visit, Run, State, Result, Goes, Breaks, Over, Turn, Again, Leaves, Ended, with_value, with_store, here_in, any_numbers, simple_value, declare_value, then_state, then_again, visit_with, turns, run, run_all, wait, clock_turn, main_of, start, ended, execution, converted_value, compound_value, filled, strong_update, copied}
+use Rattle.sa_typed.specs.Progress.{HasNoLoop, HaveNoLoop, EndsInClock, EndInClock, reads, links_reads, steps_reads, step_reads, place_reads, access_reads, start_reads, simple_reads, stmt_reads, all_reads, takes, links_take, steps_take, step_takes, place_takes, access_takes, is_of_all, start_takes, simple_takes, stmt_takes, all_take, SomeFails, AreTurns, Causes, Lasts, IsNoError, IsOver, HasVisits, GoesOn, IsUnbroken}
 use Rattle.sa_typed.specs.declared.expr.Expr.{Expr, Number, Read', Input, Prefix', Cast', Chain', end_of-Expr, more_of-Expr, Row_of-Link, end_of-Link, more_of-Link, Row_of-Step, end_of-Step, more_of-Step}
 use Rattle.sa_typed.specs.declared.expr.Expr.TheVariants as e
-use Rattle.sa_typed.specs.declared.expr.Access.{Access}
 use Rattle.sa_typed.specs.declared.expr.Operator.{Operator}
 use Rattle.sa_typed.specs.declared.expr.Step.{Step, At', Field}
 use Rattle.sa_typed.specs.declared.shape.Part.TheVariants as part
@@ -135,7 +134,7 @@ module _ (test : ℤ → Bool) where
       elim (is_of num z) as (λ b. is_of num z ≡ b →
       Fed (length (num ∷ ns)) (z ∷ tape) (if b then then_value (any_numbers ns tape) (λ zs tape. Gives (z ∷ zs) tape) else Stops Blocked)) [
         | true ↦ λ _. fed_after 1 (length ns) (length (num ∷ ns)) (z ∷ tape) tape (then_value (any_numbers ns tape) (λ zs tape. Gives (z ∷ zs) tape)) (omega arith) (one z tape)
-          (fed_last (length ns) tape (any_numbers ns tape) (λ zs tape. Gives (z ∷ zs) tape) (numbers_ok ns tape (λ y t. and_right (is_of num y) (is_of_all ns y) (h y t))) (λ zs rest. none rest))
+            (fed_last (length ns) tape (any_numbers ns tape) (λ zs tape. Gives (z ∷ zs) tape) (numbers_ok ns tape (λ y t. and_right (is_of num y) (is_of_all ns y) (h y t))) (λ zs rest. none rest))
         | false ↦ λ f. inl (refused (test z) (is_of num z) (λ t. and_left (is_of num z) (is_of_all ns z) (h z t)) f)
       ] refl
 
@@ -355,20 +354,20 @@ module _ (p : Program) (w : Setting) (q : Pos) (last : ℕ) (limit : w.max_clock
         elim (int_le w.max_clock new.clock) as (λ b. int_le w.max_clock new.clock ≡ b →
         Ends (then_again (if b then Ended (record { visits = new.visits; end = Clock }) else Again (record new { clock = new.clock +ℤ pos 1 })) go)) [
           | true ↦ λ t.
-            let x = h.made in let y = h.total in let z = h.clocks in let u = at_last w.max_clock new.clock last c limit h.clock t in
-            record { turns = h.turns; within = omega (arith, x, y); clocks = omega (arith, x, z); cause = omega (arith, x, z, u) }
+              let x = h.made in let y = h.total in let z = h.clocks in let u = at_last w.max_clock new.clock last c limit h.clock t in
+              record { turns = h.turns; within = omega (arith, x, y); clocks = omega (arith, x, z); cause = omega (arith, x, z, u) }
           | false ↦ λ f.
-            let y = h.total in let r = h.room in let m = mul-suc all (c + 1) in
-            l (record new { clock = new.clock +ℤ pos 1 }) (record {
-              turns = h.turns;
-              made = h.made;
-              clock = ap (λ (z : ℤ). z +ℤ pos 1) h.clock;
-              left = h.left;
-              clocks = before_last w.max_clock new.clock last c limit h.clock f;
-              total = h.total;
-              room = omega (arith, r, m);
-              back = h.back;
-            })
+              let y = h.total in let r = h.room in let m = mul-suc all (c + 1) in
+              l (record new { clock = new.clock +ℤ pos 1 }) (record {
+                turns = h.turns;
+                made = h.made;
+                clock = ap (λ (z : ℤ). z +ℤ pos 1) h.clock;
+                left = h.left;
+                clocks = before_last w.max_clock new.clock last c limit h.clock f;
+                total = h.total;
+                room = omega (arith, r, m);
+                back = h.back;
+              })
         ] refl
 
     turn_ok : (c tries : ℕ) (st : State) (x : Result) (go : State → Result) → InTurn c tries (all * (c + 1)) st → Straight test (all_reads p row) st x → ((new : State) → AtTurn (c + 1) tries new → Ends (go new)) →
@@ -501,7 +500,7 @@ module _ (p : Program) (w : Setting) (q : Pos) (last : ℕ) (limit : w.max_clock
   unfolding execution
   has_visits e =
       let h = visits_of (run p w [] (main_of p) (start p tape n))
-          (main_ok (main_of p) 0 (start p tape n) e (λ z t. t) (omega arith) (record { visits = refl; clock = refl; left = refl; room = none test tape })) in
+      (main_ok (main_of p) 0 (start p tape n) e (λ z t. t) (omega arith) (record { visits = refl; clock = refl; left = refl; room = none test tape })) in
       let lasts = h.1 in
       record { over = h.0; lasts = lasts; full = λ f room ok. full_of (execution p w tape n).end (length (execution p w tape n).visits) lasts.within lasts.clocks lasts.cause f room ok }
 

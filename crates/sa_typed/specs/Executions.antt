@@ -2,7 +2,6 @@
 use Rattle.std.specs.Prelude.{ℕ, zero, suc, ◌==◌, ℤ, pos, ◌+ℤ◌, List, [], ◌∷◌, ◌++◌, Bool, true, false, ◌&&◌, if◌then◌else◌, get_or, slice_get, Option, Some, None}
 use Rattle.std.specs.Int.RustNames.{int_le}
 use Rattle.sa_base.specs.declared.num.Num.{Num}
-use Rattle.sa_base.specs.declared.num.Num.TheVariants.{I32}
 use Rattle.sa_base.specs.declared.pos.Pos.{Pos}
 use Rattle.sa_typed.specs.Arithmetic.{operate, converted, is_of}
 use Rattle.sa_typed.specs.Layouts.{nums, index_of, layout_of, num_in}
