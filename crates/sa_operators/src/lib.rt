@@ -6,6 +6,8 @@
 #![tactic(auto)]
 
 mod operators;
+#[cfg(test)]
+mod tests;
 
 pub use operators::{
     converted_span, note_conversion, note_operator, note_prefix, operator_span, prefix_span,

@@ -11,7 +11,7 @@ use Rattle.sa_interval.specs.Rows.{single}
 use Rattle.sa_typed.specs.Arithmetic.{is_of, operate, converted}
 use Rattle.sa_typed.specs.Layouts.{Layout, leaf, nums, index_of, layout_of, num_in}
 use Rattle.sa_typed.specs.Evaluation.{Setting, Value, Gives, Stops, Here, Store, then_value, given, place_of, eval, access_place, read_place}
-use Rattle.sa_typed.specs.Executions.{same_path, same_parts, same_var, stored, filled, any_numbers, initial_of, converted_value, declare_value, compound_value, simple_value, initial_store}
+use Rattle.sa_typed.specs.Executions.{same_path, same_parts, same_var, strong_update, filled, any_numbers, initial_of, converted_value, declare_value, compound_value, simple_value, initial_store}
 use Rattle.sa_typed.specs.Cells.{Cell, Inner, cells, covers, names, is_root, is_local}
 use Rattle.sa_typed.specs.WellTyped.{IsTyped, HasTypedItems, IsTypedSimple, IsTypedStart, IsTypedExpr, IsLink, type_of}
 use Rattle.sa_typed.specs.declared.expr.Expr.{Expr}
@@ -50,7 +50,7 @@ abbrev pub HoldsAfter : Program → ℤ → Option Flat → Store → Type 0
 HoldsAfter p time o store = AliveAnd (λ i. Holds p i store time) o
 
 pub assign_holds : (p : Program) (env : Flat) (store : Store) (time : ℤ) (a : Place) (z : ℤ) (o : Option (List ℕ)) (s : Option Span) → Holds p env store time → AliveAnd (λ ks. NamesAll (cells p) a ks) o → InSpan s z →
-    HoldsAfter p time (assign_to p env o s) (stored a z store)
+    HoldsAfter p time (assign_to p env o s) (strong_update a z store)
 assign_holds p env store time a z None s h n i = absurd n
 assign_holds p env store time a z (Some ks) None h n i = absurd i
 assign_holds p env store time a z (Some ks) (Some s) h n i = record {

@@ -9,7 +9,7 @@ use Rattle.sa_interval.specs.Rows.{single, join_of}
 use Rattle.sa_typed.specs.Cells.{Cell, one, all, of, covers_step, covers, names, is_root, is_starred, is_all}
 use Rattle.sa_typed.specs.Cells as cell
 use Rattle.sa_typed.specs.Evaluation.{Store}
-use Rattle.sa_typed.specs.Executions.{same_pos, same_path, same_part, same_parts, same_var, same_place, stored}
+use Rattle.sa_typed.specs.Executions.{same_pos, same_path, same_part, same_parts, same_var, same_place, strong_update}
 use Rattle.sa_typed.specs.declared.shape.Part.{Part}
 use Rattle.sa_typed.specs.declared.shape.Part.TheVariants.{At, Field}
 use Rattle.sa_typed.specs.declared.program.Place.{Place}
@@ -266,30 +266,30 @@ module _ (cs : List Cell) (a : Place) (z : ℤ) (s : Span) (inside : Within s z)
       get_inside (d ∷ cs) (suc j) c e = let i = get_inside cs j c e in omega (arith, i)
 
   -- what a cell has to hold at a place after the change
-  after_at : (t : Span) (q : Place) → (same_place q a ≡ true → Within t z) → (same_place q a ≡ false → Within t (store q)) → Within t (stored a z store q)
+  after_at : (t : Span) (q : Place) → (same_place q a ≡ true → Within t z) → (same_place q a ≡ false → Within t (store q)) → Within t (strong_update a z store q)
   after_at t q new old =
       elim (same_place q a) as (λ b. same_place q a ≡ b → Within t (if b then z else store q)) [ true ↦ new | false ↦ old ] refl
 
   names_same : (c : Cell) (q : Place) → same_place q a ≡ true → names c q ≡ true → names c a ≡ true
   names_same c q e n = subst (λ (r : Place). names c r ≡ true) (place_is q a e) n
 
-  weakly_holds : (ks : List ℕ) → NamesAll cs a ks → Points (HoldsOf (stored a z store)) cs (weakly ks s ss)
+  weakly_holds : (ks : List ℕ) → NamesAll cs a ks → Points (HoldsOf (strong_update a z store)) cs (weakly ks s ss)
   weakly_holds ks n = record {
     long = weakly_long ks s ss ∙ h.long;
     at = λ j c e q m. after_at (cell_span (weakly ks s ss) j) q (λ f. weakly_adds ks s ss j z (within_length j c e) (n.each j c e (names_same c q f m)) inside)
         (λ f. weakly_keeps ks s ss j (store q) (within_length j c e) (h.at j c e q m));
   }
 
-  put_holds : (k : ℕ) → starred_at cs k ≡ false → NamesAll cs a (k ∷ []) → Points (HoldsOf (stored a z store)) cs (put k s ss)
+  put_holds : (k : ℕ) → starred_at cs k ≡ false → NamesAll cs a (k ∷ []) → Points (HoldsOf (strong_update a z store)) cs (put k s ss)
   put_holds k u n = record { long = put_long k s ss ∙ h.long; at = at }
     where
       only : (j : ℕ) → IsAmong j (k ∷ []) → j ≡ k
       only j (inl e) = e
       only j (inr m) = absurd m
 
-      at : (j : ℕ) (c : Cell) → slice_get cs j ≡ Some c → (q : Place) → names c q ≡ true → Within (cell_span (put k s ss) j) (stored a z store q)
+      at : (j : ℕ) (c : Cell) → slice_get cs j ≡ Some c → (q : Place) → names c q ≡ true → Within (cell_span (put k s ss) j) (strong_update a z store q)
       at j c e q m =
-          put_has (λ t. Within t (stored a z store q)) j k s ss (within_length j c e)
+          put_has (λ t. Within t (strong_update a z store q)) j k s ss (within_length j c e)
           (λ f. after_at s q (λ _. inside) (λ g. absurd (apart (number_is j k f) g)))
           (λ f. after_at (cell_span ss j) q (λ g. absurd (other (only j (n.each j c e (names_same c q g m))) f)) (λ g. h.at j c e q m))
         where
@@ -306,11 +306,11 @@ module _ (cs : List Cell) (a : Place) (z : ℤ) (s : Span) (inside : Within s z)
               let is : names c a ≡ true = (let w : x.1 ≡ c = cc in subst (λ (d : Cell). names d a ≡ true) w x.3) in
               let t = same_of_one c q a one m is in cc
 
-  pub assigned_holds : (ks : List ℕ) → NamesAll cs a ks → Points (HoldsOf (stored a z store)) cs (assigned cs ks s ss)
+  pub assigned_holds : (ks : List ℕ) → NamesAll cs a ks → Points (HoldsOf (strong_update a z store)) cs (assigned cs ks s ss)
   unfolding assigned
   assigned_holds [] n = weakly_holds [] n
   assigned_holds (k ∷ []) n =
-      elim (starred_at cs k) as (λ b. starred_at cs k ≡ b → Points (HoldsOf (stored a z store)) cs (if b then weakly (k ∷ []) s ss else put k s ss)) [
+      elim (starred_at cs k) as (λ b. starred_at cs k ≡ b → Points (HoldsOf (strong_update a z store)) cs (if b then weakly (k ∷ []) s ss else put k s ss)) [
         | true ↦ λ e. weakly_holds (k ∷ []) n
         | false ↦ λ e. put_holds k e n
       ] refl

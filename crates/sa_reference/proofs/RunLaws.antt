@@ -10,7 +10,9 @@ use Rattle.sa_typed.specs.declared.program.Program.{Program}
 use Rattle.sa_typed.specs.declared.stmt.Stmt.{Stmt, Row_of-Stmt, end_of-Stmt, more_of-Stmt}
 use Rattle.sa_typed.specs.Evaluation.{End, Error, Clock, Blocked, Tape, Going, Value, Gives, Stops, Store, Setting}
 use Rattle.sa_typed.specs.Executions.{Loop, Visit, Run, State, Result, Goes, Breaks, Over, Turn, Again, Leaves, Ended, with_value, with_store, here_in, simple_value, then_state, then_again, visit_with, turns, run, run_all, wait, clock_turn, main_of, start, ended, execution}
+use Rattle.sa_typed.specs.Progress.{IsUnbroken}
 use Rattle.sa_typed.specs.WellTyped.{IsTyped, IsTypedStmt, AreTypedStmts}
+use Rattle.sa_typed.proofs.ProgressLaws.{all_unbroken}
 use Rattle.sa_reference.specs.Domain.{Domain}
 use Rattle.sa_reference.specs.Passes.{Facts, alive_then}
 use Rattle.sa_reference.specs.Steps.{Record, Found, Exits, both, found_in, found_over, recorded, list_of, flat, goes_on, either, merged, loop_found, clock_turn_of, spread, broken_over, after, after_all, found, found_all}
@@ -239,12 +241,12 @@ module _ (p : Program) (w : Setting) (D : Domain) (L : Laws p w D) (G : Found D.
       ] refl
 
   clock_turn_ok : {n : _} (r : Row_of-Stmt n) (path : List Pos) → AreTypedStmts p r → (e : D.Env) (st : State) → Begins e (found_all D r path (e ∷ [])) st →
-      (x : Result) → ResultOk (after_all D r path (e ∷ [])) x → TurnOk (turn_of p w D L r path e) None (clock_turn w.max_clock x)
-  clock_turn_ok r path t e st b (Goes st2) h =
+      (x : Result) → IsUnbroken x → ResultOk (after_all D r path (e ∷ [])) x → TurnOk (turn_of p w D L r path e) None (clock_turn w.max_clock x)
+  clock_turn_ok r path t e st b (Goes st2) u h =
       let ends = (all_keep p w D L r path t (e ∷ []) (b.under, tt)).ends in
       wait_follows (merged D (after_all D r path (e ∷ [])).ends) st2 (merged_keeps p w D L _ ends) (merged_any (after_all D r path (e ∷ [])).ends st2 ends h.holds) h.inside
-  clock_turn_ok r path t e st b (Breaks st2) h = record { inside = h.inside; covered = tt }
-  clock_turn_ok r path t e st b (Over x) h = h
+  clock_turn_ok r path t e st b (Breaks st2) u h = absurd u
+  clock_turn_ok r path t e st b (Over x) u h = h
 
   -- nothing leaves the clock loop
   clock_ok : (x : Facts D.Env) (r : Result) → ResultOk (goes_on (alive_then x.state (λ _. None))) r → ResultOk (goes_on None) r
@@ -273,7 +275,7 @@ module _ (p : Program) (w : Setting) (D : Domain) (L : Laws p w D) (G : Found D.
         clock_ok (facts_in p w D L all path e) _
         (loop_follows (record { path = path; place = q }) (facts_in p w D L all path e) (λ st. clock_turn w.max_clock (run_all p w path all st)) (turn_of p w D L all path) (λ _. None)
         (λ r. found_all D all path (r ∷ [])) e (clock_ends p w D L all path t e b.under).closed (clock_keeps p w D L all path t e b.under) b.has
-        (λ r st b. clock_turn_ok all path t r st b (run_all p w path all st) (all_follow all path t (r ∷ []) st (b.under, tt) b.has (inl b.holds) b.inside)) st.left st b.holds b.inside)
+        (λ r st b. clock_turn_ok all path t r st b (run_all p w path all st) (all_unbroken p w path all st) (all_follow all path t (r ∷ []) st (b.under, tt) b.has (inl b.holds) b.inside)) st.left st b.holds b.inside)
 
     all_follow : {n : _} (r : Row_of-Stmt n) (path : List Pos) → AreTypedStmts p r → FollowsAll (λ st. run_all p w path r st) (λ es. after_all D r path es) (λ es. found_all D r path es)
     all_follow end_of-Stmt path t es st u g h i = record { holds = h; inside = i }

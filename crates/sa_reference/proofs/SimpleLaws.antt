@@ -9,7 +9,7 @@ use Rattle.sa_interval.specs.Span.{Span, Within}
 use Rattle.sa_typed.specs.Arithmetic.{operate, converted, is_of}
 use Rattle.sa_typed.specs.Layouts.{Layout, leaf, nums, index_of, layout_of, num_in}
 use Rattle.sa_typed.specs.Evaluation.{Setting, Value, Gives, Stops, Here, Store, then_value, given, place_of, eval, access_place, read_place}
-use Rattle.sa_typed.specs.Executions.{same_path, same_var, stored, filled, any_numbers, initial_of, converted_value, declare_value, compound_value, simple_value}
+use Rattle.sa_typed.specs.Executions.{same_path, same_var, strong_update, filled, any_numbers, initial_of, converted_value, declare_value, compound_value, simple_value}
 use Rattle.sa_typed.specs.Cells.{Cell, cells, covers, names, is_root}
 use Rattle.sa_typed.specs.WellTyped.{IsTyped, IsTypedSimple, IsTypedStart, IsTypedExpr, IsLink, type_of}
 use Rattle.sa_typed.specs.declared.expr.Expr.{Expr}
@@ -128,7 +128,7 @@ module _ (p : Program) (w : Setting) (F : OperatorFacts) (within : IsWithin p w)
       let num = num_in (layout_of p v) in
       let is : layout_of p v ≡ leaf num = leaf_is (layout_of p v) t.1.0 t.1.1 in
       then_covers (InSpan (value_as num (span_of p w env a))) (λ st. HoldsAfter p time (declare_of p w v (begins.Value q a) env) st) (alarms_of p w env a ++ assign_alarms num q (span_of p w env a)) []
-      (alarms_of p w env a ++ assign_alarms num q (span_of p w env a)) (converted_value w here store num q a tape) (λ z tape. Gives (stored (place_of here v []) z store) tape)
+      (alarms_of p w env a ++ assign_alarms num q (span_of p w env a)) (converted_value w here store num q a tape) (λ z tape. Gives (strong_update (place_of here v []) z store) tape)
       (converted_known num q a t.0 tape) (λ a m. m) (λ a m. absurd m)
       (λ z tape i. assign_holds p env store time (place_of here v []) z (Some (named p v [])) (value_as num (span_of p w env a)) holds
       (whole_named p here v num is) i)
@@ -146,9 +146,9 @@ module _ (p : Program) (w : Setting) (F : OperatorFacts) (within : IsWithin p w)
       let s = value_as num (span_of p w env a) in
       both_cover (Led p w F within here store env fair holds.cells r) (λ st. HoldsAfter p time (assign_to p env (read_cells p w env r) s) st) (alarms_of p w env r)
       (alarms_of p w env a ++ assign_alarms num q (span_of p w env a)) (read_place w here store r tape)
-      (λ at tape. then_value (converted_value w here store num q a tape) (λ z tape. Gives (stored at z store) tape)) (led p w F within here store env fair holds.cells r num t.0 tape)
+      (λ at tape. then_value (converted_value w here store num q a tape) (λ z tape. Gives (strong_update at z store) tape)) (led p w F within here store env fair holds.cells r num t.0 tape)
       (λ at tape l. then_covers (InSpan s) (λ st. HoldsAfter p time (assign_to p env (read_cells p w env r) s) st) (alarms_of p w env a ++ assign_alarms num q (span_of p w env a)) []
-      (alarms_of p w env a ++ assign_alarms num q (span_of p w env a)) (converted_value w here store num q a tape) (λ z tape. Gives (stored at z store) tape) (converted_known num q a t.1 tape) (λ a m. m) (λ a m. absurd m)
+      (alarms_of p w env a ++ assign_alarms num q (span_of p w env a)) (converted_value w here store num q a tape) (λ z tape. Gives (strong_update at z store) tape) (converted_known num q a t.1 tape) (λ a m. m) (λ a m. absurd m)
       (λ z tape i. assign_holds p env store time at z (read_cells p w env r) s holds l.named i))
 
   compound_sound : (x : Access) (num : Num) (op : Operator) (q : Pos) (work : Num) (a : Expr) (tape : List ℤ) → IsTypedSimple p (Compound x num op q work a) →
@@ -160,9 +160,9 @@ module _ (p : Program) (w : Setting) (F : OperatorFacts) (within : IsWithin p w)
       let s = value_as num (linked op work o (span_of p w env a)) in
       let more = alarms_of p w env a ++ (with_both o (span_of p w env a) (operator_alarms op q work) ++ assign_alarms num q (linked op work o (span_of p w env a))) in
       both_cover (Led p w F within here store env fair holds.cells r) (λ st. HoldsAfter p time (assign_to p env (read_cells p w env r) s) st) (alarms_of p w env r) more (read_place w here store r tape)
-      (λ at tape. then_value (compound_value w here store num op work q (store at) a tape) (λ z tape. Gives (stored at z store) tape)) (led p w F within here store env fair holds.cells r num t.0 tape)
+      (λ at tape. then_value (compound_value w here store num op work q (store at) a tape) (λ z tape. Gives (strong_update at z store) tape)) (led p w F within here store env fair holds.cells r num t.0 tape)
       (λ at tape l. then_covers (InSpan s) (λ st. HoldsAfter p time (assign_to p env (read_cells p w env r) s) st) more [] more (compound_value w here store num op work q (store at) a tape)
-      (λ z tape. Gives (stored at z store) tape)
+      (λ z tape. Gives (strong_update at z store) tape)
       (compound_known num op work q o (store at) a t.1.0 t.1.1 (cells_known p w F within env fair r num t.0).reads l.reads tape) (λ a m. m) (λ a m. absurd m)
       (λ z tape i. assign_holds p env store time at z (read_cells p w env r) s holds l.named i))
 

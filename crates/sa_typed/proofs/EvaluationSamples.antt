@@ -1,5 +1,5 @@
 -- What statements do, computed on samples: which of two errors comes first, and in which order numbers are read.
-use Rattle.std.proofs.Common.{◌≡◌, ℤ, pos, List, [], ◌∷◌, refl}
+use Rattle.std.proofs.Common.{◌≡◌, pos, [], ◌∷◌, refl}
 use Rattle.sa_base.specs.declared.alarm.Kind.TheVariants.{Index, Division}
 use Rattle.sa_base.specs.declared.num.Num.TheVariants.{I32, U8}
 use Rattle.sa_base.specs.declared.pos.Pos.{Pos}
@@ -10,10 +10,9 @@ use Rattle.sa_typed.specs.declared.expr.Operator.TheVariants as o
 use Rattle.sa_typed.specs.declared.expr.Step.TheVariants as step
 use Rattle.sa_typed.specs.declared.program.Program.{Program}
 use Rattle.sa_typed.specs.declared.shape.Part.TheVariants as part
-use Rattle.sa_typed.specs.declared.stmt.Simple.{Simple}
 use Rattle.sa_typed.specs.declared.stmt.Simple.TheVariants.{Assign}
-use Rattle.sa_typed.specs.Evaluation.{Value, Gives, Stops, Error, Store, Setting, Here, place_of, eval, steps_value, step_value, links_value, read_place}
-use Rattle.sa_typed.specs.Executions.{simple_value, stored}
+use Rattle.sa_typed.specs.Evaluation.{Gives, Stops, Error, Store, Setting, Here, place_of, eval, steps_value, step_value, links_value, read_place}
+use Rattle.sa_typed.specs.Executions.{simple_value, strong_update}
 use Rattle.sa_typed.specs.Arithmetic.{operate, divided}
 
 abbrev bracket : Pos
@@ -48,6 +47,6 @@ unfolding simple_value read_place steps_value step_value eval links_value operat
 then_division p w here = refl
 
 -- `b[u] = u;`, of an input u, reads the number of the index first
-index_reads_first : (p : Program) (here : Here) (st : Store) → simple_value p (record { inputs = record { lo = pos 0; hi = pos 255 } ∷ []; max_clock = pos 10 }) here (Assign (element (e.Input 0 U8)) I32 equals (e.Input 0 U8)) st (pos 1 ∷ pos 7 ∷ []) ≡ Gives (stored (place_of here 0 (part.At 1 ∷ [])) (pos 7) st) []
+index_reads_first : (p : Program) (here : Here) (st : Store) → simple_value p (record { inputs = record { lo = pos 0; hi = pos 255 } ∷ []; max_clock = pos 10 }) here (Assign (element (e.Input 0 U8)) I32 equals (e.Input 0 U8)) st (pos 1 ∷ pos 7 ∷ []) ≡ Gives (strong_update (place_of here 0 (part.At 1 ∷ [])) (pos 7) st) []
 unfolding simple_value read_place steps_value step_value eval Rattle.sa_typed.specs.declared.expr.Expr.TheBlock.hidden-the_row-Step-0 denote.Hole.Carrier.hidden Rattle.sa_typed.specs.declared.expr.Expr.TheBlock.hidden-the_row-Expr-1 Rattle.sa_typed.specs.Arithmetic.in_type
 index_reads_first p here st = refl

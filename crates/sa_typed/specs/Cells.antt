@@ -1,9 +1,9 @@
 -- The cells of a program: what an analysis keeps one value for, and what a report names. An array of at most 128 elements has
 -- cells for each, a larger one has cells for all of them together, which are starred: this project's own choice.
-use Rattle.std.specs.Prelude.{ℕ, zero, suc, ◌+◌, ◌==◌, List, [], ◌∷◌, ◌++◌, map, length, Bool, true, false, ◌&&◌, ◌||◌, if◌then◌else◌, nat_le, nat_lt, slice_get, Option, Some, None}
+use Rattle.std.specs.Prelude.{ℕ, zero, suc, ◌+◌, ◌==◌, List, [], ◌∷◌, ◌++◌, length, Bool, true, false, ◌&&◌, ◌||◌, if◌then◌else◌, nat_le, nat_lt, slice_get, Option, Some, None}
 use Rattle.sa_base.specs.declared.num.Num.{Num}
 use Rattle.sa_base.specs.declared.pos.Pos.{Pos}
-use Rattle.sa_typed.specs.Layouts.{Layout, Layouts, leaf, row, fields, no_field, field, layout_of, var_layout}
+use Rattle.sa_typed.specs.Layouts.{Layout, Layouts, leaf, row, fields, no_field, field, layout_of}
 use Rattle.sa_typed.specs.declared.shape.Part.{Part}
 use Rattle.sa_typed.specs.declared.shape.Part.TheVariants.{At, Field}
 use Rattle.sa_typed.specs.declared.program.Home.{Home}

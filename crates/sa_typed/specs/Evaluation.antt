@@ -3,7 +3,6 @@
 -- its first error, whose kind and place are those of the operation (6.5p5).
 use Rattle.std.specs.Prelude.{ℕ, ℤ, pos, List, [], ◌∷◌, Bool, ◌&&◌, if◌then◌else◌, get_or, unsigned_abs, Result, Ok, Err}
 use Rattle.std.specs.Int.RustNames.{int_le, int_lt}
-use Rattle.sa_base.specs.declared.num.Num.{Num}
 use Rattle.sa_base.specs.declared.pos.Pos.{Pos}
 use Rattle.sa_base.specs.declared.alarm.Kind.{Kind}
 use Rattle.sa_base.specs.declared.alarm.Kind.TheVariants.{Index}

@@ -2,7 +2,6 @@
 use Rattle.std.specs.Prelude.{ℕ, zero, suc, ◌==◌, ℤ, pos, ◌+ℤ◌, List, [], ◌∷◌, ◌++◌, Bool, true, false, ◌&&◌, if◌then◌else◌, get_or, slice_get, Option, Some, None}
 use Rattle.std.specs.Int.RustNames.{int_le}
 use Rattle.sa_base.specs.declared.num.Num.{Num}
-use Rattle.sa_base.specs.declared.num.Num.TheVariants.{I32}
 use Rattle.sa_base.specs.declared.pos.Pos.{Pos}
 use Rattle.sa_typed.specs.Arithmetic.{operate, converted, is_of}
 use Rattle.sa_typed.specs.Layouts.{nums, index_of, layout_of, num_in}
@@ -107,8 +106,8 @@ after_parts (p ∷ ps) (q ∷ qs) = if same_part p q then after_parts ps qs else
 
 -- ---- stores
 -- the number at one place changed
-abbrev pub stored : Place → ℤ → Store → Store
-stored a z st = λ q. if same_place q a then z else st q
+abbrev pub strong_update : Place → ℤ → Store → Store
+strong_update a z st = λ q. if same_place q a then z else st q
 
 -- the elements of a variable are these numbers, in their order; what the list lacks is 0 (ISO C 6.7.8p21)
 abbrev pub filled : Program → Here → ℕ → List ℤ → Store → Store
@@ -147,7 +146,7 @@ converted_value w here st num p e tape = then_value (eval w here st e tape) (λ 
 unfoldable pub declare_value : Program → Setting → Here → ℕ → Start → Store → List ℤ → Value Store
 declare_value p w here v begins.Any st tape = then_value (any_numbers (nums (layout_of p v)) tape) (λ zs tape. Gives (filled p here v zs st) tape)
 declare_value p w here v (begins.Value q e) st tape =
-    then_value (converted_value w here st (num_in (layout_of p v)) q e tape) (λ z tape. Gives (stored (place_of here v []) z st) tape)
+    then_value (converted_value w here st (num_in (layout_of p v)) q e tape) (λ z tape. Gives (strong_update (place_of here v []) z st) tape)
 declare_value p w here v begins.Items st tape = Gives (filled p here v (initial_of (slice_get p.vars v)) st) tape
 
 -- an operator on the number of a place, converted back to the place's type; both errors stand at the operator
@@ -160,9 +159,9 @@ compound_value w here st num op work q x e tape =
 unfoldable pub simple_value : Program → Setting → Here → Simple → Store → List ℤ → Value Store
 simple_value p w here (Declare v s) st tape = declare_value p w here v s st tape
 simple_value p w here (Assign x num q e) st tape =
-    then_value (access_place w here st x tape) (λ a tape. then_value (converted_value w here st num q e tape) (λ z tape. Gives (stored a z st) tape))
+    then_value (access_place w here st x tape) (λ a tape. then_value (converted_value w here st num q e tape) (λ z tape. Gives (strong_update a z st) tape))
 simple_value p w here (Compound x num op q work e) st tape =
-    then_value (access_place w here st x tape) (λ a tape. then_value (compound_value w here st num op work q (st a) e tape) (λ z tape. Gives (stored a z st) tape))
+    then_value (access_place w here st x tape) (λ a tape. then_value (compound_value w here st num op work q (st a) e tape) (λ z tape. Gives (strong_update a z st) tape))
 simple_value p w here (Copy k x q y) st tape =
     then_value (access_place w here st x tape) (λ a tape. then_value (access_place w here st y tape) (λ b tape. Gives (copied a b st) tape))
 
@@ -189,10 +188,10 @@ turns loop one (suc tries) st = visit loop st (λ st. then_again (one st) (λ st
 abbrev pub wait : ℤ → State → Turn
 wait max_clock st = if int_le max_clock st.clock then Ended (record { visits = st.visits; end = Clock }) else Again (record st { clock = st.clock +ℤ pos 1 })
 
--- the end of a turn of the clock loop; no break leaves it
+-- the end of a turn of the clock loop; a break leaves it
 abbrev pub clock_turn : ℤ → Result → Turn
 clock_turn max_clock (Goes st) = wait max_clock st
-clock_turn max_clock (Breaks st) = Ended (record { visits = st.visits; end = Going })
+clock_turn max_clock (Breaks st) = Leaves st
 clock_turn max_clock (Over r) = Ended r
 
 -- ---- statements
@@ -223,7 +222,7 @@ block_of (Some f) = stmt.Block f.body
 abbrev pub main_of : Program → Stmt
 main_of p = block_of (slice_get p.funcs p.entry)
 
--- a result that didn't end is still going
+-- what didn't end is still going; of a main that ends in the clock loop there is only what is over, as `Progress` says
 abbrev pub ended : Result → Run
 ended (Goes st) = record { visits = st.visits; end = Going }
 ended (Breaks st) = record { visits = st.visits; end = Going }

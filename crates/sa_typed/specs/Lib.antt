@@ -7,3 +7,4 @@ pub mod Lines
 pub mod Constants
 pub mod WellTyped
 pub mod Links
+pub mod Progress

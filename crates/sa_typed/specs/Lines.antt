@@ -1,5 +1,5 @@
 -- The lines of a report on a loop, as inequalities, and when one is true of a store and a clock.
-use Rattle.std.specs.Prelude.{ℤ, ◌≤ℤ◌, List, IsTrue}
+use Rattle.std.specs.Prelude.{ℤ, ◌≤ℤ◌, IsTrue}
 use Rattle.sa_typed.specs.declared.program.Place.{Place}
 use Rattle.sa_typed.specs.Evaluation.{Store}
 use Rattle.sa_typed.specs.Cells.{Cell, names}

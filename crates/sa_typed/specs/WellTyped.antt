@@ -1,6 +1,6 @@
 -- What typing promises of a program: steps follow what their variable is made of, and each operand converts to the type in
 -- which its operator works without loss of meaning. Executions and analyses of such programs meet no other.
-use Rattle.std.specs.Prelude.{ℕ, ℤ, pos, ◌≡◌, ◌==◌, List, [], ◌∷◌, Bool, true, false, ◌&&◌, ◌||◌, not, IsTrue, if◌then◌else◌, get_or, slice_get, Option, Some, None}
+use Rattle.std.specs.Prelude.{ℕ, pos, ◌≡◌, ◌==◌, Bool, true, false, ◌&&◌, ◌||◌, not, IsTrue, if◌then◌else◌, get_or, slice_get, Option, Some, None}
 use Rattle.std.specs.Int.RustNames.{int_le}
 use Rattle.sa_base.specs.Numbers.{num_lo, num_hi}
 use Rattle.sa_base.specs.declared.num.Num.{Num}
