@@ -2,11 +2,11 @@
 use Rattle.std.specs.Prelude.{ℕ, zero, suc, ◌+◌, ◌*◌, ◌≡◌, ◌<◌, ℤ, List, [], ◌∷◌, ◌++◌, length, map, if◌then◌else◌, nat_le, nat_lt, true, false, Option, Some, None}
 use Rattle.sa_typed.specs.Layouts.{Layout, Layouts, leaf, row, fields, no_field, field, nums}
 use Rattle.sa_typed.specs.Cells.{most_elements, inner_cells, is_starred}
+use Rattle.sa_typed.specs.declared.shape.Plain.{Plain}
+use Rattle.sa_typed.specs.declared.shape.Plain.TheVariants.{Scalar, Struct}
 use Rattle.sa_typed.specs.declared.shape.Shape.{Shape}
 use Rattle.sa_typed.specs.declared.shape.StructDef.{StructDef}
 use Rattle.sa_reference.specs.Environments.{initial_span}
-use Rattle.sa_env.specs.declared.slots.Base.{Base}
-use Rattle.sa_env.specs.declared.slots.Base.TheVariants as base
 use Rattle.sa_env.specs.declared.slots.Row.{Row}
 use Rattle.sa_env.specs.declared.slots.Spot.{Spot}
 use Rattle.sa_env.specs.declared.slots.Slot.{Slot}
@@ -14,20 +14,21 @@ use Rattle.sa_env.specs.declared.slots.Ends.{Ends}
 use Rattle.sa_env.specs.declared.slots.Elements.{Elements}
 use Rattle.sa_env.specs.declared.slots.Arrays.{Arrays}
 use Rattle.sa_interval.specs.Span.{Span}
-use Rattle.sa_env.specs.Sizes.{among, capped, IsPlain}
+use Rattle.sa_env.specs.Sizes.{among, no_array, capped}
 use Rattle.sa_env.specs.Slots.{slot, slots_in}
 
 -- the cells of an object from its first element on, with their initial values
 unfoldable pub all_slots : List ℤ → Layout → List Slot
 all_slots zs l = map (λ i. slot i.num (is_starred i.steps) (initial_span zs l i.steps 0)) (inner_cells l)
 
-unfoldable pub base_layout : List StructDef → Base → Layout
-base_layout structs (base.Number num) = leaf num
-base_layout structs (base.Struct k) = among structs (suc k) (Shape.Struct k)
+-- a type that is no array, among the structures up to it
+unfoldable pub base_layout : List StructDef → Plain → Layout
+base_layout structs (Scalar num) = leaf num
+base_layout structs (Struct k) = among structs (suc k) (no_array (Struct k))
 
-abbrev pub IsKnown : List StructDef → Base → Type 0
-IsKnown structs (base.Number num) = Unit {0}
-IsKnown structs (base.Struct k) = k < length structs
+abbrev pub IsKnown : List StructDef → Plain → Type 0
+IsKnown structs (Scalar num) = Unit {0}
+IsKnown structs (Struct k) = k < length structs
 
 abbrev pub AreKnown : List StructDef → List Spot → Type 0
 AreKnown structs [] = Unit {0}
@@ -56,11 +57,6 @@ weight structs [] = 0
 weight structs (s ∷ ss) = work (base_layout structs s.base) + weight structs ss
 
 -- ---- arrays around something
--- the outermost first
-unfoldable pub rows : List ℕ → Layout → Layout
-rows [] l = l
-rows (n ∷ ns) l = row n (rows ns l)
-
 -- the innermost first, with the number of elements in each element
 unfoldable pub wound : List Row → Layout → Layout
 wound [] l = l
@@ -72,16 +68,14 @@ HasWidths (r ∷ rs) l = (r.width ≡ capped (length (nums l))) × HasWidths rs 
 
 -- the arrays around a shape, and how many elements it has
 pub record AreArrays (structs : List StructDef) (m : ℕ) (s : Shape) (a : Arrays) : Type 0 where
-  pub whole : among structs m s ≡ wound a.rows.items (among structs m a.inner.now)
-  pub widths : HasWidths a.rows.items (among structs m a.inner.now)
-  pub plain : IsPlain a.inner.now
+  pub whole : among structs m s ≡ wound a.rows.items (among structs m (no_array s.plain))
+  pub widths : HasWidths a.rows.items (among structs m (no_array s.plain))
   pub counted : a.elements ≡ capped (length (nums (among structs m s)))
 
--- what a shape that is no array is
-abbrev pub base_of : ℕ → Shape → Option Base
-base_of m (Shape.Scalar num) = Some (base.Number num)
-base_of m (Shape.Struct k) = if nat_lt k m then Some (base.Struct k) else None
-base_of m (Shape.Array' n e dim) = None
+-- a type that is no array, None where it is a structure that isn't one of the first
+abbrev pub base_of : ℕ → Plain → Option Plain
+base_of m (Scalar num) = Some (Scalar num)
+base_of m (Struct k) = if nat_lt k m then Some (Struct k) else None
 
 -- ---- leaves
 abbrev pub ends_span : Ends → Span

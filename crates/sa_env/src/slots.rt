@@ -5,16 +5,16 @@ ghost use Rattle.std.specs.List.{flat_map};
 ghost use Rattle.sa_interval.specs.Rows.{single, join_some};
 ghost use Rattle.sa_typed.specs.Layouts.{Layout, nums, shape_layout};
 ghost use Rattle.sa_typed.specs.Layouts as layouts;
-ghost use Rattle.sa_env.specs.declared.slots.Base.TheVariants.{Struct};
-ghost use Rattle.sa_env.specs.Sizes.{among, capped, made_of, Covers, IsPlain};
+ghost use Rattle.sa_typed.specs.declared.shape.Plain.TheVariants.{Struct};
+ghost use Rattle.sa_env.specs.Sizes.{among, no_array, capped, made_of, Covers};
 ghost use Rattle.sa_env.specs.Slots.{values_of, or_zero, slot, slots_in, kept, any_past, moved_on, run, stops, any_stops, together, apart};
-ghost use Rattle.sa_env.specs.Spots.{all_slots, base_layout, IsKnown, AreKnown, spot_slots, left, work, weight, rows, wound, HasWidths, AreArrays, base_of, ends_span, first_element};
+ghost use Rattle.sa_env.specs.Spots.{all_slots, base_layout, IsKnown, AreKnown, spot_slots, left, work, weight, wound, HasWidths, AreArrays, base_of, ends_span, first_element};
 
 use crate::OutOfMemory;
 use crate::ground::Extent;
 use crate::sizes::plain_extent;
 use sa_base::Num;
-use sa_typed::{Program, Shape};
+use sa_typed::{Plain, Program, Shape};
 use sqlite_items::Items;
 use std::alloc::Global;
 
@@ -37,17 +37,10 @@ struct Elements {
     more: bool,
 }
 
-/// A number or a structure.
-#[derive(Clone, Copy, Debug)]
-enum Base {
-    Number(Num),
-    Struct(u32),
-}
-
-/// An object that stands at some elements, which is still to be read for its cells.
+/// An object that is no array and stands at some elements, which is still to be read for its cells.
 #[derive(Debug, Drop)]
 struct Spot {
-    base: Base,
+    base: Plain,
     elements: Elements,
 }
 
@@ -206,56 +199,35 @@ fn within(
     }
 }
 
-/// The arrays around something, what is within them, and how many elements there are in all.
+/// The arrays around something, the innermost first, and how many elements there are in all.
 #[derive(Drop)]
-struct Arrays<'a> {
+struct Arrays {
     rows: Vec<Row>,
-    inner: &'a Shape,
     elements: usize,
 }
 
-/// The numbers of elements of the arrays around something, the outermost first, and what is within them.
-fn unwound<'a>(
-    alloc: Global,
-    program: &Program,
-    structs: usize,
-    shape: &'a Shape,
-) -> Result<(Vec<u32>, &'a Shape), OutOfMemory>
-    ensures shape { IfOk result (λ r. among program.now.structs structs shape.now ≡ rows r.0.items (among program.now.structs structs r.1.now)) }
-    ensures plain { IfOk result (λ r. IsPlain r.1.now) }
-{
-    let mut dims = Vec::new(alloc);
-    let mut inner = shape;
-    while let Shape::Array(element, n) = inner {
-        dims.push(*n)?;
-        inner = element.get();
-    }
-    Ok((dims, inner))
-}
-
 /// The arrays of a shape, which may hold the first `structs` structures.
-fn around<'a>(
+fn around(
     alloc: Global,
     program: &Program,
     table: &[Items<Extent>],
     structs: usize,
-    shape: &'a Shape,
-) -> Result<Arrays<'a>, OutOfMemory>
+    shape: &Shape,
+) -> Result<Arrays, OutOfMemory>
     requires { Covers program.now.structs structs table.now }
     ensures { IfOk result (AreArrays program.now.structs structs shape.now) }
 {
-    let (mut dims, inner) = unwound(alloc, program, structs, shape)?;
+    let dims = shape.dims.as_slice();
     let mut rows = Vec::with_capacity(alloc, dims.len())?;
-    let mut elements = plain_extent(program, table, structs, inner).elements;
-    while let Some(n) = dims.pop() {
+    let mut elements = plain_extent(program, table, structs, shape.plain).elements;
+    let mut k = dims.len();
+    while k > 0 {
+        k -= 1;
+        let n = dims[k];
         rows.push(Row { n, width: elements })?;
         elements = elements.saturating_mul(n as usize);
     }
-    Ok(Arrays {
-        rows,
-        inner,
-        elements,
-    })
+    Ok(Arrays { rows, elements })
 }
 
 /// What is within the arrays that stand at these elements.
@@ -299,7 +271,7 @@ fn push_spots(
     if arrays.elements == 0 {
         return Ok(());
     }
-    let Some(base) = base_of(structs, arrays.inner) else {
+    let Some(base) = base_of(structs, shape.plain) else {
         return Ok(());
     };
     let mut all = all_within(alloc, arrays.rows, elements, values.len())?;
@@ -309,20 +281,19 @@ fn push_spots(
     Ok(())
 }
 
-/// What a shape that is no array is, None where it is a structure that isn't one of the first.
-fn base_of(structs: usize, shape: &Shape) -> Option<Base>
-    ensures { result ≡ base_of structs shape.now }
+/// A type that is no array, None where it is a structure that isn't one of the first.
+fn base_of(structs: usize, plain: Plain) -> Option<Plain>
+    ensures { result ≡ base_of structs plain }
 {
-    match shape {
-        Shape::Scalar(num) => Some(Base::Number(*num)),
-        Shape::Struct(k) => {
-            if (*k as usize) < structs {
-                Some(Base::Struct(*k))
+    match plain {
+        Plain::Scalar(num) => Some(Plain::Scalar(num)),
+        Plain::Struct(k) => {
+            if (k as usize) < structs {
+                Some(Plain::Struct(k))
             } else {
                 None
             }
         }
-        Shape::Array(..) => None,
     }
 }
 
@@ -447,11 +418,11 @@ fn read_spot(
     ensures work { OnOk result (weight program.now.structs todo.new.items < work (base_layout program.now.structs spot.now.base) + weight program.now.structs todo.old.items) }
 {
     match spot.base {
-        Base::Number(num) => {
+        Plain::Scalar(num) => {
             out.push(leaf(num, &spot.elements, values))?;
             Ok(())
         }
-        Base::Struct(k) => push_fields(alloc, program, table, k, &spot.elements, values, todo),
+        Plain::Struct(k) => push_fields(alloc, program, table, k, &spot.elements, values, todo),
     }
 }
 

@@ -1,17 +1,16 @@
 //! Where the cells of a program stand, and their names.
 
-ghost use Rattle.std.specs.Prelude.{◌≡◌, ◌++◌, ◌≤◌, length, IfOk, OnOk, Some};
+ghost use Rattle.std.specs.Prelude.{◌≡◌, ◌++◌, ◌≤◌, length, IfOk, OnOk, Some, slice_get};
 ghost use Rattle.sa_typed.specs.Cells.{cells};
-ghost use Rattle.sa_typed.specs.Layouts.{row};
-ghost use Rattle.sa_typed.specs.declared.shape.Shape.TheVariants.{Struct};
+ghost use Rattle.sa_typed.specs.declared.shape.Plain.TheVariants.{Struct};
 ghost use Rattle.sa_env.specs.Grounds.{IsGround};
-ghost use Rattle.sa_env.specs.Sizes.{among};
+ghost use Rattle.sa_env.specs.Sizes.{among, no_array};
 ghost use Rattle.sa_report.specs.Names.{place_text};
 ghost use Rattle.sa_report.specs.Spots.{has_home, spots_from, spots_at, AreCells, IsSpot, spot_name, inside_layout, IsInside, inside_name, IsNext, Steps, HasField, IsField, index_text, star_text, dot_text, at_text};
 
 use sa_base::{OutOfMemory, Pos};
 use sa_env::{Extent, Ground};
-use sa_typed::{Home, Program, Shape, Var};
+use sa_typed::{Home, Plain, Program, Shape, Var};
 use std::alloc::Global;
 
 /// Where variables of one kind live.
@@ -36,11 +35,12 @@ pub struct Cells {
     pub spots: Vec<Spot>,
 }
 
-/// A cell within an object: the object's shape, which may hold the first `structs` structures, how many cells it has, and the
-/// number of the cell among them.
+/// A cell within an object: the object's shape, which may hold the first `structs` structures and is without its `depth`
+/// outermost dimensions, how many cells it has, and the number of the cell among them.
 #[derive(Clone, Copy)]
 struct Inside<'a> {
     shape: &'a Shape,
+    depth: usize,
     structs: usize,
     cells: usize,
     number: usize,
@@ -136,25 +136,25 @@ fn push_element<'a>(
     alloc: Global,
     text: &mut Vec<u8>,
     program: &Program,
-    element: &'a Shape,
     n: u32,
     at: Inside<'a>,
 ) -> Result<Inside<'a>, OutOfMemory>
     requires at { IsInside program.now at }
-    requires array { inside_layout program.now at ≡ row n (among program.now.structs at.structs element.now) }
+    requires array { slice_get at.shape.now.dims at.depth ≡ Some n }
     ensures { IfOk result (λ next. IsNext program.now text.old.items text.new.items at.entry next) }
 {
     if n > 128 {
         push_star(text)?;
         return Ok(Inside {
-            shape: element,
+            depth: at.depth + 1,
             ..at
         });
     }
     let cells = at.cells / n as usize;
     push_index(alloc, text, at.number / cells)?;
     Ok(Inside {
-        shape: element,
+        shape: at.shape,
+        depth: at.depth + 1,
         structs: at.structs,
         cells,
         number: at.number % cells,
@@ -189,7 +189,7 @@ fn push_field<'a>(
 ) -> Result<Inside<'a>, OutOfMemory>
     requires ground { IsGround program.now ground.now }
     requires at { IsInside program.now at }
-    requires shape { at.shape.now ≡ Struct k }
+    requires shape { inside_layout program.now at ≡ among program.now.structs at.structs (no_array (Struct k)) }
     ensures { IfOk result (λ next. IsNext program.now text.old.items text.new.items at.entry next) }
 {
     let made = &program.structs.as_slice()[k as usize];
@@ -199,6 +199,7 @@ fn push_field<'a>(
     push_dot(text, field.name.bytes())?;
     Ok(Inside {
         shape: &field.shape,
+        depth: 0,
         structs: k as usize,
         cells: extents[f + 1].cells - extents[f].cells,
         number: at.number - extents[f].cells,
@@ -217,14 +218,14 @@ fn push_step<'a>(
     requires at { IsInside program.now at }
     ensures { IfOk result (Steps program.now text.old.items text.new.items at.entry) }
 {
-    match at.shape {
-        Shape::Scalar(_) => Ok(None),
-        Shape::Array(element, n) => {
-            let next = push_element(alloc, text, program, element.get(), *n, at)?;
-            Ok(Some(next))
-        }
-        Shape::Struct(k) => {
-            let next = push_field(text, program, ground, *k, at)?;
+    if let Some(n) = at.shape.dims.get(at.depth) {
+        let next = push_element(alloc, text, program, *n, at)?;
+        return Ok(Some(next));
+    }
+    match at.shape.plain {
+        Plain::Scalar(_) => Ok(None),
+        Plain::Struct(k) => {
+            let next = push_field(text, program, ground, k, at)?;
             Ok(Some(next))
         }
     }
@@ -286,6 +287,7 @@ pub fn push_name(
     push_place(alloc, text, var.home, var.pos)?;
     let start = Inside {
         shape: &var.shape,
+        depth: 0,
         structs: program.structs.len(),
         cells: stretch.cells,
         number: spot.number,

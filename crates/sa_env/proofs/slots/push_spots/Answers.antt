@@ -4,7 +4,7 @@ use Rattle.std.proofs.lemmas.List.{nil_from_length}
 use Rattle.sa_typed.specs.Layouts.{Layout, nums}
 use Rattle.sa_env.specs.declared.slots.Elements.{Elements}
 use Rattle.sa_env.specs.declared.slots.Slot.{Slot}
-use Rattle.sa_env.specs.Sizes.{among, capped}
+use Rattle.sa_env.specs.Sizes.{among, no_array, capped}
 use Rattle.sa_env.specs.Slots.{slots_in}
 use Rattle.sa_env.specs.Spots.{base_layout, IsKnown, AreKnown, HasWidths, left, work, weight, wound}
 use Rattle.sa_env.proofs.SpotLemmas.{base-known, no-base, known-push, spot-step, weight-step, nothing-read}
@@ -17,7 +17,7 @@ returns-then-arrays-eq0-clause-slots c =
 
 pub returns-in_default-clause-slots : goal.returns-in_default-clause-slots
 returns-in_default-clause-slots c =
-    let none = no-base c.args.program.now.structs c.args.structs c.in_ok-arrays.arrays.inner.now c.in_ok-arrays.arrays.rows.items c.requires.table.known c.in_ok-arrays.ensures.plain c.in_default.ensures in
+    let none = no-base c.args.program.now.structs c.args.structs c.args.shape.now.plain c.in_ok-arrays.arrays.rows.items c.requires.table.known c.in_default.ensures in
     let count : length (nums (among c.args.program.now.structs c.args.structs c.args.shape.now)) ≡ 0 = ap (λ (l : Layout). length (nums l)) c.in_ok-arrays.ensures.whole ∙ none in
     nothing-read c.args.values.now (among c.args.program.now.structs c.args.structs c.args.shape.now) c.args.elements (left c.args.program.now.structs c.args.values.now c.args.todo.now.items)
     (ap (λ (n : ℕ). capped n) count)
@@ -26,7 +26,7 @@ pub loop-elements-preserved : goal.loop-elements-preserved
 loop-elements-preserved c =
     let p = c.args.program.now.structs in
     let b = c.in-Some.base in
-    let k = base-known p c.args.structs c.in_ok-arrays.arrays.inner.now b c.requires.table.known c.in-Some.ensures in
+    let k = base-known p c.args.structs c.args.shape.now.plain b c.requires.table.known c.in-Some.ensures in
     record {
       known = subst (λ ss. AreKnown p ss) (sym c.in_ok-push.ensures.items) (known-push p c.loop-elements.todo.items _ c.loop-elements.invariant.known k.1);
       slots =
@@ -43,9 +43,8 @@ returns-clause-slots c =
     let p = c.args.program.now.structs in
     let zs = c.args.values.now in
     let b = c.in-Some.base in
-    let a = c.in_ok-arrays.arrays in
-    let inner = among p c.args.structs a.inner.now in
-    let k = base-known p c.args.structs a.inner.now b c.requires.table.known c.in-Some.ensures in
+    let inner = among p c.args.structs (no_array c.args.shape.now.plain) in
+    let k = base-known p c.args.structs c.args.shape.now.plain b c.requires.table.known c.in-Some.ensures in
     let none : c.loop-elements.all.items ≡ [] = nil_from_length c.loop-elements.all.items (sym c.loop-elements.all.ok.0 ∙ c.in_default-pop.ensures.cases.0) in
     ap (λ (es : List Elements). flat_map (slots_in zs (base_layout p b)) es ++ left p zs c.loop-elements.todo.items) (sym none)
     ∙ c.loop-elements.invariant.slots
@@ -57,9 +56,8 @@ pub returns-clause-work : goal.returns-clause-work
 returns-clause-work c =
     let p = c.args.program.now.structs in
     let b = c.in-Some.base in
-    let a = c.in_ok-arrays.arrays in
-    let inner = among p c.args.structs a.inner.now in
-    let k = base-known p c.args.structs a.inner.now b c.requires.table.known c.in-Some.ensures in
+    let inner = among p c.args.structs (no_array c.args.shape.now.plain) in
+    let k = base-known p c.args.structs c.args.shape.now.plain b c.requires.table.known c.in-Some.ensures in
     let same : length c.in_ok-all.all.items * work (base_layout p b) ≡ work (among p c.args.structs c.args.shape.now)
     = ap (λ (l : Layout). length c.in_ok-all.all.items * work l) (sym k.0) ∙ c.in_ok-all.ensures.work inner ∙ ap work (sym c.in_ok-arrays.ensures.whole) in
     let w = c.loop-elements.invariant.work in
