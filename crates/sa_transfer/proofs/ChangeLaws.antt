@@ -1,5 +1,5 @@
 -- What assignments need of types, and that spans stay in them.
-use Rattle.std.proofs.Common.{◌≡◌, ◌<◌, ℕ, pos, arith, true, false, List, [], ◌∷◌, refl, ap, subst, Option, Some, None}
+use Rattle.std.proofs.Common.{◌≡◌, ℕ, pos, arith, true, false, List, [], ◌∷◌, refl, ap, subst, Option, Some, None}
 use Rattle.std.proofs.lemmas.Int.{ints}
 use Rattle.std.specs.Prelude.{◌==◌, if◌then◌else◌, reverse, length, IfSome}
 use Rattle.sa_base.specs.declared.num.Num.{Num}
@@ -117,12 +117,12 @@ pub struct_is : (ds : List StructDef) (s : Shape) (k : ℕ) → s.dims ≡ [] �
 unfolding layout_with rows
 struct_is ds s k h e = rw (h, e) (struct_num (reverse ds) k)
 
-pub array_num : (ds : List StructDef) (s : Shape) → 0 < length s.dims → num_in (shape_layout ds s) ≡ I32
+pub array_num : (ds : List StructDef) (s : Shape) → (s.dims ≡ [] → ⊥) → num_in (shape_layout ds s) ≡ I32
 unfolding layout_with rows
 array_num ds s h = cases s.dims h
   where
-    cases : (ns : List ℕ) → 0 < length ns → num_in (shape_layout ds (record { dims = ns; plain = s.plain })) ≡ I32
-    cases [] l = absurd (omega arith)
-    cases (n ∷ ns) l = refl
+    cases : (ns : List ℕ) → (ns ≡ [] → ⊥) → num_in (shape_layout ds (record { dims = ns; plain = s.plain })) ≡ I32
+    cases [] some = absurd (some refl)
+    cases (n ∷ ns) some = refl
 
 pub ruleset of_shapes = (scalar_num, struct_is, array_num)
