@@ -1,5 +1,5 @@
 -- One step further on the way to a cell: to an element, and to a field.
-use Rattle.std.proofs.Common.{◌≡◌, ℕ, zero, suc, ◌+◌, ◌-◌, ◌*◌, ◌/◌, ◌%◌, ◌^◌, ◌<◌, ◌≤◌, Bool, true, false, List, [], ◌∷◌, ◌++◌, length, get_or, take, reverse, refl, sym, ap, ap₂, ◌∙◌, inl, inr, append_assoc, add-one, length-append, arith, Option, Some, None}
+use Rattle.std.proofs.Common.{◌≡◌, ℕ, zero, suc, ◌+◌, ◌-◌, ◌*◌, ◌/◌, ◌%◌, ◌^◌, ◌<◌, ◌≤◌, Bool, true, false, List, [], ◌∷◌, ◌++◌, length, get_or, take, reverse, refl, sym, ap, ap₂, ◌∙◌, inl, inr, append_assoc, add-one, length-append, arith, Option, Some}
 use Rattle.std.proofs.lemmas.Bool.{cases_lt}
 use Rattle.std.proofs.lemmas.Bool.Decides.{nat_tests}
 use Rattle.std.proofs.lemmas.List.{take_all}
@@ -17,9 +17,9 @@ use Rattle.sa_typed.specs.declared.shape.StructDef.{StructDef}
 use Rattle.sa_typed.specs.declared.program.Program.{Program}
 use Rattle.sa_typed.specs.declared.program.Var.{Var}
 use Rattle.sa_env.specs.declared.ground.Extent.{Extent}
-use Rattle.sa_env.specs.Sizes.{size, sizes, cells_before, among, no_array, without, extent, extents_from, all_extents, made_of}
+use Rattle.sa_env.specs.Sizes.{size, sizes, cells_before, among, no_array, extent, extents_from, all_extents, made_of}
 use Rattle.sa_env.proofs.CellLemmas.{split}
-use Rattle.sa_env.proofs.StepLemmas.{size-small, size-large, size-of-fields, width-is, array-layout, plain-layout, past-end}
+use Rattle.sa_env.proofs.StepLemmas.{size-small, size-large, size-of-fields, width-is}
 use Rattle.sa_env.proofs.StructLemmas.{among-struct, among-none, among-field, extents-of, extents-at, before-next, before-most, fields_count, count-fields}
 use Rattle.sa_report.specs.declared.names.Inside.{Inside}
 use Rattle.sa_report.specs.declared.names.Spot.{Spot}
@@ -33,11 +33,17 @@ unfolding inner_name among layout_with rows
 leaf-name p i num e = ap (λ (l : Layout). inner_name l i.number) e
 
 -- where no dimension is left
-pub plain-inside : (p : Program) (i : Inside) (x : Plain) → slice_get i.shape.now.dims i.depth ≡ None → i.shape.now.plain ≡ x → inside_layout p i ≡ among p.structs i.structs (no_array x)
-plain-inside p i x h e = plain-layout p.structs i.structs i.depth i.shape.now x (past-end i.shape.now.dims i.depth h) e
+pub plain-inside : (p : Program) (i : Inside) (x : Plain) → i.dims.now ≡ [] → i.plain ≡ x → inside_layout p i ≡ among p.structs i.structs (no_array x)
+plain-inside p i x h e = ap₂ (λ (ds : List ℕ) (y : Plain). among p.structs i.structs (record { dims = ds; plain = y })) h e
 
-pub array-inside : (p : Program) (i : Inside) (n : ℕ) → slice_get i.shape.now.dims i.depth ≡ Some n → inside_layout p i ≡ row n (among p.structs i.structs (without (i.depth + 1) i.shape.now))
-array-inside p i n h = array-layout p.structs i.structs n i.depth i.shape.now h
+pub array-inside : (p : Program) (i : Inside) (n : ℕ) (rest : List ℕ) → i.dims.now ≡ n ∷ rest → inside_layout p i ≡ row n (among p.structs i.structs (record { dims = rest; plain = i.plain }))
+unfolding among layout_with rows
+array-inside p i n rest h = ap (λ (ds : List ℕ). among p.structs i.structs (record { dims = ds; plain = i.plain })) h
+
+layout-of : (p : Program) (i : Inside) (m : ℕ) (s : Shape) → i.structs ≡ m → i.dims.now ≡ s.dims → i.plain ≡ s.plain → inside_layout p i ≡ among p.structs m s
+layout-of p i m s e f g =
+    ap (λ (k : ℕ). among p.structs k (record { dims = i.dims.now; plain = i.plain })) e
+    ∙ ap₂ (λ (ds : List ℕ) (y : Plain). among p.structs m (record { dims = ds; plain = y })) f g
 
 -- ---- elements
 module _ (p : Program) (i n : Inside) (l : Layout) (dim : ℕ) (inside : IsInside p i) (array : inside_layout p i ≡ row dim l) where
@@ -212,7 +218,7 @@ module _ (p : Program) (i : Inside) (k : ℕ) (inside : IsInside p i) (shape : i
       pub field-order : before es f ≤ before es (f + 1)
       field-order = (let a = field.from in let b = field.until in omega (arith, a, b))
 
-      module _ (n : Inside) (x : FieldDef) (at : slice_get d.fields f ≡ Some x) (same : n.shape.now ≡ x.shape) (whole : n.depth ≡ 0) (structs : n.structs ≡ k) (cells : n.cells ≡ before es (f + 1) - before es f) (number : n.number ≡ i.number - before es f) where
+      module _ (n : Inside) (x : FieldDef) (at : slice_get d.fields f ≡ Some x) (same : n.dims.now ≡ x.shape.dims) (plain : n.plain ≡ x.shape.plain) (structs : n.structs ≡ k) (cells : n.cells ≡ before es (f + 1) - before es f) (number : n.number ≡ i.number - before es f) where
         abbrev m : Layout
         m = among p.structs k x.shape
 
@@ -220,7 +226,7 @@ module _ (p : Program) (i : Inside) (k : ℕ) (inside : IsInside p i) (shape : i
         nth = among-field p.structs k f d x at
 
         own : inside_layout p n ≡ m
-        own = ap₂ (λ (s : ℕ) (t : Shape). among p.structs s (without n.depth t)) structs same ∙ ap (λ (j : ℕ). among p.structs k (without j x.shape)) whole
+        own = layout-of p n k x.shape structs same plain
 
         start : before es f ≡ cells_before ls f
         start = starts f (let a = field-there in let b = count-is in omega (arith, a, b))
@@ -290,9 +296,9 @@ var-small p v x e =
     omega (arith, a, b, c, d)
 
 module _ (p : Program) (s : Spot) (x : Var) (i : Inside) (spot : IsSpot p s) (few : length (cells p) ≤ 65536) (there : slice_get p.vars s.var ≡ Some x)
-    (shape : i.shape.now ≡ x.shape) (whole : i.depth ≡ 0) (structs : i.structs ≡ length p.structs) (cells : i.cells ≡ size (layout_of p s.var)) (number : i.number ≡ s.number) where
+    (dims : i.dims.now ≡ x.shape.dims) (plain : i.plain ≡ x.shape.plain) (structs : i.structs ≡ length p.structs) (cells : i.cells ≡ size (layout_of p s.var)) (number : i.number ≡ s.number) where
   first-layout : inside_layout p i ≡ layout_of p s.var
-  first-layout = ap₂ (λ (m : ℕ) (t : Shape). among p.structs m (without i.depth t)) structs shape ∙ ap (λ (j : ℕ). among p.structs (length p.structs) (without j x.shape)) whole ∙ sym (whole-layout p s.var x there)
+  first-layout = layout-of p i (length p.structs) x.shape structs dims plain ∙ sym (whole-layout p s.var x there)
 
   pub begins-inside : IsInside p i
   begins-inside = record {

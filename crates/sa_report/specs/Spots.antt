@@ -10,7 +10,7 @@ use Rattle.sa_typed.specs.declared.program.Var.{Var}
 use Rattle.sa_typed.specs.declared.program.Program.{Program}
 use Rattle.sa_env.specs.declared.ground.Extent.{Extent}
 use Rattle.sa_env.specs.Grounds.{IsGround}
-use Rattle.sa_env.specs.Sizes.{size, among, without, extent}
+use Rattle.sa_env.specs.Sizes.{size, among, extent}
 use Rattle.sa_report.specs.declared.names.Spot.{Spot}
 use Rattle.sa_report.specs.declared.names.Inside.{Inside}
 use Rattle.sa_report.specs.declared.names.Cells.{Cells}
@@ -70,7 +70,7 @@ spot_name p s = var_text (slice_get p.vars s.var) ++ inner_name (layout_of p s.v
 
 -- ---- steps on the way to a cell
 abbrev pub inside_layout : Program → Inside → Layout
-inside_layout p i = among p.structs i.structs (without i.depth i.shape.now)
+inside_layout p i = among p.structs i.structs (record { dims = i.dims.now; plain = i.plain })
 
 pub record IsInside (p : Program) (i : Inside) : Type 0 where
   pub known : i.structs ≤ length p.structs

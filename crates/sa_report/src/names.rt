@@ -1,6 +1,6 @@
 //! Where the cells of a program stand, and their names.
 
-ghost use Rattle.std.specs.Prelude.{◌≡◌, ◌++◌, ◌≤◌, length, IfOk, OnOk, Some, slice_get};
+ghost use Rattle.std.specs.Prelude.{◌≡◌, ◌++◌, ◌≤◌, ◌∷◌, length, IfOk, OnOk, Some};
 ghost use Rattle.sa_typed.specs.Cells.{cells};
 ghost use Rattle.sa_typed.specs.declared.shape.Plain.TheVariants.{Struct};
 ghost use Rattle.sa_env.specs.Grounds.{IsGround};
@@ -10,7 +10,7 @@ ghost use Rattle.sa_report.specs.Spots.{has_home, spots_from, spots_at, AreCells
 
 use sa_base::{OutOfMemory, Pos};
 use sa_env::{Extent, Ground};
-use sa_typed::{Home, Plain, Program, Shape, Var};
+use sa_typed::{Home, Plain, Program, Var};
 use std::alloc::Global;
 
 /// Where variables of one kind live.
@@ -35,12 +35,12 @@ pub struct Cells {
     pub spots: Vec<Spot>,
 }
 
-/// A cell within an object: the object's shape, which may hold the first `structs` structures and is without its `depth`
-/// outermost dimensions, how many cells it has, and the number of the cell among them.
+/// A cell within an object: the dimensions that are left of the object's shape, what they are around, which may hold the first
+/// `structs` structures, how many cells it has, and the number of the cell among them.
 #[derive(Clone, Copy)]
 struct Inside<'a> {
-    shape: &'a Shape,
-    depth: usize,
+    dims: &'a [u32],
+    plain: Plain,
     structs: usize,
     cells: usize,
     number: usize,
@@ -137,24 +137,22 @@ fn push_element<'a>(
     text: &mut Vec<u8>,
     program: &Program,
     n: u32,
+    rest: &'a [u32],
     at: Inside<'a>,
 ) -> Result<Inside<'a>, OutOfMemory>
     requires at { IsInside program.now at }
-    requires array { slice_get at.shape.now.dims at.depth ≡ Some n }
+    requires array { at.dims.now ≡ n ∷ rest.now }
     ensures { IfOk result (λ next. IsNext program.now text.old.items text.new.items at.entry next) }
 {
     if n > 128 {
         push_star(text)?;
-        return Ok(Inside {
-            depth: at.depth + 1,
-            ..at
-        });
+        return Ok(Inside { dims: rest, ..at });
     }
     let cells = at.cells / n as usize;
     push_index(alloc, text, at.number / cells)?;
     Ok(Inside {
-        shape: at.shape,
-        depth: at.depth + 1,
+        dims: rest,
+        plain: at.plain,
         structs: at.structs,
         cells,
         number: at.number % cells,
@@ -198,8 +196,8 @@ fn push_field<'a>(
     let field = &made.fields.as_slice()[f];
     push_dot(text, field.name.bytes())?;
     Ok(Inside {
-        shape: &field.shape,
-        depth: 0,
+        dims: field.shape.dims.as_slice(),
+        plain: field.shape.plain,
         structs: k as usize,
         cells: extents[f + 1].cells - extents[f].cells,
         number: at.number - extents[f].cells,
@@ -218,11 +216,11 @@ fn push_step<'a>(
     requires at { IsInside program.now at }
     ensures { IfOk result (Steps program.now text.old.items text.new.items at.entry) }
 {
-    if let Some(n) = at.shape.dims.get(at.depth) {
-        let next = push_element(alloc, text, program, *n, at)?;
+    if let [n, rest @ ..] = at.dims {
+        let next = push_element(alloc, text, program, *n, rest, at)?;
         return Ok(Some(next));
     }
-    match at.shape.plain {
+    match at.plain {
         Plain::Scalar(_) => Ok(None),
         Plain::Struct(k) => {
             let next = push_field(text, program, ground, k, at)?;
@@ -286,8 +284,8 @@ pub fn push_name(
     text.extend_from_slice(var.name.bytes())?;
     push_place(alloc, text, var.home, var.pos)?;
     let start = Inside {
-        shape: &var.shape,
-        depth: 0,
+        dims: var.shape.dims.as_slice(),
+        plain: var.shape.plain,
         structs: program.structs.len(),
         cells: stretch.cells,
         number: spot.number,
