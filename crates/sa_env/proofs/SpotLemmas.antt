@@ -23,7 +23,7 @@ use Rattle.sa_env.specs.declared.slots.Slot.{Slot}
 use Rattle.sa_env.specs.declared.slots.Elements.{Elements}
 use Rattle.sa_env.specs.Sizes.{among, no_array, capped, made_of, extent, extents_from, Covers}
 use Rattle.sa_env.specs.Slots.{spread, values_of, or_zero, slot, slot_of, slots_in, moved_on, together, apart, fields_in}
-use Rattle.sa_env.specs.Spots.{all_slots, base_layout, IsKnown, AreKnown, spot_slots, left, work, works, weight, wound, HasWidths, base_of, first_element}
+use Rattle.sa_env.specs.Spots.{all_slots, base_layout, IsKnown, AreKnown, spot_slots, left, work, works, weight, wound, HasWidths, IsNothing, first_element}
 use Rattle.sa_env.proofs.SpreadLaws.{zeros}
 use Rattle.sa_env.proofs.SlotLaws.{slots-leaf, slots-apart, slots-one, slots-together, slots-fields, no-slots, length-times, apart-capped, together-capped, moved-alike, capped-alike}
 use Rattle.sa_env.proofs.StructLemmas.{among-struct, among-none, among-field}
@@ -31,7 +31,7 @@ use Rattle.sa_env.proofs.StepLemmas.{here}
 use Rattle.sa_env.proofs.SizeLemmas.{capped-left}
 
 -- ---- lists of lists
-flat-same : {X Y : Type 0} (f g : X → List Y) (xs : List X) → ((x : X) → f x ≡ g x) → flat_map f xs ≡ flat_map g xs
+pub flat-same : {X Y : Type 0} (f g : X → List Y) (xs : List X) → ((x : X) → f x ≡ g x) → flat_map f xs ≡ flat_map g xs
 flat-same f g [] h = refl
 flat-same f g (x ∷ xs) h = rw (h x, flat-same f g xs h) refl
 
@@ -53,7 +53,7 @@ unfolding apart
 length-apart n w zero j e = refl
 length-apart n w (suc k) j e = ap suc (length-apart n w k (j + 1) e)
 
-work-small : (n : ℕ) (l : Layout) → n ≤ 128 → work (row n l) ≡ n * work l
+pub work-small : (n : ℕ) (l : Layout) → n ≤ 128 → work (row n l) ≡ n * work l
 unfolding work
 work-small n l h = let t : nat_le n most_elements ≡ true = grind (arith, nat_tests) in rw t refl
 
@@ -138,36 +138,20 @@ wound-empty [] l h = h
 wound-empty (r ∷ rs) l h = wound-empty rs (row r.n l) (length-times r.n (nums l) ∙ ap (λ (k : ℕ). r.n * k) h ∙ (let f : r.n * 0 ≡ 0 = grind arith in f))
 
 -- ---- what shapes are
-pub base-known : (structs : List StructDef) (m : ℕ) (s b : Plain) → m ≤ length structs → Some b ≡ base_of m s → (among structs m (no_array s) ≡ base_layout structs b) × IsKnown structs b
-unfolding base_layout among layout_with rows
-base-known structs m (Scalar num) b h e =
-    let is : b ≡ Scalar num = cc in
-    subst (λ (x : Plain). (leaf num ≡ base_layout structs x) × IsKnown structs x) (sym is) (refl, tt)
-base-known structs m (Struct k) b h e = elim (cases_lt k m) [
-  | inl less ↦
-      let t : nat_lt k m ≡ true = grind (arith, nat_tests, less) in
-      let is : Some b ≡ Some (Struct k) = e ∙ rw t refl in
-      let same : b ≡ Struct k = cc in
-      let d = here structs k (omega (arith, less, h)) in
-      let p : (among structs m (no_array (Struct k)) ≡ among structs (suc k) (no_array (Struct k))) × (k < length structs)
-      = (among-struct structs m k d.0 h less d.1 ∙ sym (among-struct structs (suc k) k d.0 (omega (arith, less, h)) (omega arith) d.1), omega (arith, less, h)) in
-      subst (λ (x : Plain). (among structs m (no_array (Struct k)) ≡ base_layout structs x) × IsKnown structs x) (sym same) p
-  | inr past ↦
-      let t : nat_lt k m ≡ false = grind (arith, nat_tests, past) in
-      let is : Some b ≡ None = e ∙ rw t refl in
-      absurd cc
-]
+-- a structure among the first is the same among more
+pub among-own : (structs : List StructDef) (m k : ℕ) → m ≤ length structs → k < m → among structs m (no_array (Struct k)) ≡ base_layout structs (Struct k)
+unfolding base_layout
+among-own structs m k h less =
+    let d = here structs k (omega (arith, less, h)) in
+    among-struct structs m k d.0 h less d.1 ∙ sym (among-struct structs (suc k) k d.0 (omega (arith, less, h)) (omega arith) d.1)
 
-pub no-base : (structs : List StructDef) (m : ℕ) (s : Plain) (rs : List Row) → m ≤ length structs → None ≡ base_of m s → length (nums (wound rs (among structs m (no_array s)))) ≡ 0
+-- what has no elements has none in arrays
+pub none-within : (structs : List StructDef) (m : ℕ) (x : Plain) (rs : List Row) → IsNothing structs m x → length (nums (wound rs (among structs m (no_array x)))) ≡ 0
+none-within structs m x rs h = wound-empty rs (among structs m (no_array x)) h
+
+pub none-past : (structs : List StructDef) (m k : ℕ) → m ≤ length structs → m ≤ k → IsNothing structs m (Struct k)
 unfolding nums all_nums
-no-base structs m (Scalar num) rs h e = absurd cc
-no-base structs m (Struct k) rs h e = elim (cases_lt k m) [
-  | inl less ↦
-      let t : nat_lt k m ≡ true = grind (arith, nat_tests, less) in
-      let is : None ≡ Some (Struct k) = e ∙ rw t refl in
-      absurd cc
-  | inr past ↦ wound-empty rs (among structs m (no_array (Struct k))) (ap (λ (l : Layout). length (nums l)) (among-none structs m k h past))
-]
+none-past structs m k h past = ap (λ (l : Layout). length (nums l)) (among-none structs m k h past)
 
 -- ---- lists of what is to be read
 module _ (structs : List StructDef) where

@@ -1,5 +1,5 @@
 -- Objects that are still to be read for their cells, the next one last.
-use Rattle.std.specs.Prelude.{ℕ, zero, suc, ◌+◌, ◌*◌, ◌≡◌, ◌<◌, ℤ, List, [], ◌∷◌, ◌++◌, length, map, if◌then◌else◌, nat_le, nat_lt, true, false, Option, Some, None}
+use Rattle.std.specs.Prelude.{ℕ, zero, suc, ◌+◌, ◌*◌, ◌≡◌, ◌<◌, ℤ, List, [], ◌∷◌, ◌++◌, length, map, ◌≤◌, if◌then◌else◌, nat_le, true, false, Option, Some, None, slice_get}
 use Rattle.sa_typed.specs.Layouts.{Layout, Layouts, leaf, row, fields, no_field, field, nums}
 use Rattle.sa_typed.specs.Cells.{most_elements, inner_cells, is_starred}
 use Rattle.sa_typed.specs.declared.shape.Plain.{Plain}
@@ -72,10 +72,27 @@ pub record AreArrays (structs : List StructDef) (m : ℕ) (s : Shape) (a : Array
   pub widths : HasWidths a.rows.items (among structs m (no_array s.plain))
   pub counted : a.elements ≡ capped (length (nums (among structs m s)))
 
--- a type that is no array, None where it is a structure that isn't one of the first
-abbrev pub base_of : ℕ → Plain → Option Plain
-base_of m (Scalar num) = Some (Scalar num)
-base_of m (Struct k) = if nat_lt k m then Some (Struct k) else None
+-- ---- types with the same cells
+-- the second has the same cells at any elements, and reading them takes no more steps
+pub record IsAlike (l m : Layout) : Type 0 where
+  pub slots : (zs : List ℤ) (e : Elements) → slots_in zs l e ≡ slots_in zs m e
+  pub work : work m ≤ work l
+
+-- a type that is no array and stands for another
+pub record IsCore (structs : List StructDef) (l : Layout) (c : Plain) : Type 0 where
+  pub known : IsKnown structs c
+  pub alike : IsAlike l (base_layout structs c)
+
+-- what is listed for some of the first structures stands for them
+abbrev pub StandFor : List StructDef → List (Option Plain) → Type 0
+StandFor structs cores = (k : ℕ) (c : Plain) → slice_get cores k ≡ Some (Some c) → IsCore structs (base_layout structs (Struct k)) c
+
+pub record AreCores (structs : List StructDef) (cores : List (Option Plain)) : Type 0 where
+  pub long : length cores ≡ length structs
+  pub each : StandFor structs cores
+
+abbrev pub IsNothing : List StructDef → ℕ → Plain → Type 0
+IsNothing structs m x = length (nums (among structs m (no_array x))) ≡ 0
 
 -- ---- leaves
 abbrev pub ends_span : Ends → Span

@@ -1,20 +1,22 @@
 //! The cells of a variable, in their order: their types, and what they begin with.
 
-ghost use Rattle.std.specs.Prelude.{ℕ, List, ◌≡◌, ◌+◌, ◌*◌, ◌≤◌, ◌<◌, ℤ, pos, Some, None, [], ◌∷◌, ◌++◌, length, map, get_or, option_map, nat_lt, if◌then◌else◌, IfOk, OnOk, MatchOption};
-ghost use Rattle.std.specs.List.{flat_map};
+ghost use Rattle.std.specs.Prelude.{ℕ, List, ◌≡◌, ◌+◌, ◌*◌, ◌≤◌, ◌<◌, ℤ, pos, Some, None, [], ◌∷◌, ◌++◌, length, map, get_or, option_map, nat_lt, if◌then◌else◌, IfOk, OnOk, MatchOption, slice_get, ◌==◌};
+ghost use Rattle.std.specs.List.{flat_map, list_all};
 ghost use Rattle.sa_interval.specs.Rows.{single, join_some};
 ghost use Rattle.sa_typed.specs.Layouts.{Layout, nums, shape_layout};
 ghost use Rattle.sa_typed.specs.Layouts as layouts;
+ghost use Rattle.sa_typed.specs.declared.shape.Plain.{Plain};
 ghost use Rattle.sa_typed.specs.declared.shape.Plain.TheVariants.{Struct};
+ghost use Rattle.sa_typed.specs.declared.shape.StructDef.{StructDef};
 ghost use Rattle.sa_env.specs.Sizes.{among, no_array, capped, made_of, Covers};
 ghost use Rattle.sa_env.specs.Slots.{values_of, or_zero, slot, slots_in, kept, any_past, moved_on, run, stops, any_stops, together, apart};
-ghost use Rattle.sa_env.specs.Spots.{all_slots, base_layout, IsKnown, AreKnown, spot_slots, left, work, weight, wound, HasWidths, AreArrays, base_of, ends_span, first_element};
+ghost use Rattle.sa_env.specs.Spots.{all_slots, base_layout, IsKnown, AreKnown, spot_slots, left, work, weight, wound, HasWidths, AreArrays, StandFor, AreCores, IsCore, IsNothing, ends_span, first_element};
 
 use crate::OutOfMemory;
 use crate::ground::Extent;
 use crate::sizes::plain_extent;
 use sa_base::Num;
-use sa_typed::{Plain, Program, Shape};
+use sa_typed::{FieldDef, Plain, Program, Shape};
 use sqlite_items::Items;
 use std::alloc::Global;
 
@@ -255,6 +257,7 @@ fn push_spots(
     alloc: Global,
     program: &Program,
     table: &[Items<Extent>],
+    cores: &[Option<Plain>],
     structs: usize,
     shape: &Shape,
     elements: Elements,
@@ -262,6 +265,7 @@ fn push_spots(
     todo: &mut Vec<Spot>,
 ) -> Result<(), OutOfMemory>
     requires table { Covers program.now.structs structs table.now }
+    requires cores { AreCores program.now.structs cores.now }
     requires known { AreKnown program.now.structs todo.old.items }
     ensures known { AreKnown program.now.structs todo.new.items }
     ensures slots { OnOk result (left program.now.structs values.now todo.new.items ≡ slots_in values.now (among program.now.structs structs shape.now) elements ++ left program.now.structs values.now todo.old.items) }
@@ -271,7 +275,7 @@ fn push_spots(
     if arrays.elements == 0 {
         return Ok(());
     }
-    let Some(base) = base_of(structs, shape.plain) else {
+    let Some(base) = base_of(program, cores, structs, shape.plain) else {
         return Ok(());
     };
     let mut all = all_within(alloc, arrays.rows, elements, values.len())?;
@@ -281,20 +285,73 @@ fn push_spots(
     Ok(())
 }
 
-/// A type that is no array, None where it is a structure that isn't one of the first.
-fn base_of(structs: usize, plain: Plain) -> Option<Plain>
-    ensures { result ≡ base_of structs plain }
+/// What stands for a type that is no array, None where it is a structure that isn't one of the first `structs`.
+fn base_of(
+    program: &Program,
+    cores: &[Option<Plain>],
+    structs: usize,
+    plain: Plain,
+) -> Option<Plain>
+    requires known { structs ≤ length cores.now }
+    requires fits { structs ≤ length program.now.structs }
+    requires cores { StandFor program.now.structs cores.now }
+    ensures { MatchOption result (IsNothing program.now.structs structs plain) (IsCore program.now.structs (among program.now.structs structs (no_array plain))) }
 {
     match plain {
-        Plain::Scalar(num) => Some(Plain::Scalar(num)),
+        Plain::Scalar(_) => Some(plain),
         Plain::Struct(k) => {
-            if (k as usize) < structs {
-                Some(Plain::Struct(k))
-            } else {
-                None
+            if structs <= k as usize {
+                return None;
+            }
+            match cores[k as usize] {
+                None => Some(plain),
+                Some(core) => Some(core),
             }
         }
     }
+}
+
+/// Of each structure that has the same cells as a simpler type that type: what is left when structures of one field with one
+/// element are unwrapped. So an object of a long chain of such structures is read in one step.
+pub(crate) fn cores(alloc: Global, program: &Program) -> Result<Items<Option<Plain>>, OutOfMemory>
+    ensures { IfOk result (AreCores program.now.structs) }
+{
+    let structs = program.structs.as_slice();
+    let mut cores = Vec::with_capacity(alloc, structs.len())?;
+    for k in 0..structs.len() {
+        let core = core_of(program, &cores, k, structs[k].fields.as_slice());
+        cores.push(core)?;
+    }
+    Ok(Items::from_vec(cores))
+}
+
+/// What stands for the structure with this number and these fields, if there is another type that does.
+fn core_of(
+    program: &Program,
+    cores: &[Option<Plain>],
+    k: usize,
+    fields: &[FieldDef],
+) -> Option<Plain>
+    requires known { k ≡ length cores.now }
+    requires fits { k < length program.now.structs }
+    requires cores { StandFor program.now.structs cores.now }
+    requires fields { (d : StructDef) → slice_get program.now.structs k ≡ Some d → fields.now ≡ d.fields }
+    ensures { (c : Plain) → result ≡ Some c → IsCore program.now.structs (base_layout program.now.structs (Struct k)) c }
+{
+    if fields.len() != 1 {
+        return None;
+    }
+    let shape = &fields[0].shape;
+    if !are_ones(shape.dims.as_slice()) {
+        return None;
+    }
+    base_of(program, cores, k, shape.plain)
+}
+
+fn are_ones(dims: &[u32]) -> bool
+    ensures { result ≡ list_all (λ n. n == 1) dims.now }
+{
+    dims.iter().all(|n| *n == 1)
 }
 
 /// Adds the fields of a structure at some elements.
@@ -303,12 +360,14 @@ fn push_fields(
     alloc: Global,
     program: &Program,
     table: &[Items<Extent>],
+    cores: &[Option<Plain>],
     k: u32,
     elements: &Elements,
     values: &[i128],
     todo: &mut Vec<Spot>,
 ) -> Result<(), OutOfMemory>
     requires table { Covers program.now.structs (length program.now.structs) table.now }
+    requires cores { AreCores program.now.structs cores.now }
     requires inside { k < length program.now.structs }
     requires known { AreKnown program.now.structs todo.old.items }
     ensures known { AreKnown program.now.structs todo.new.items }
@@ -325,6 +384,7 @@ fn push_fields(
             alloc,
             program,
             table,
+            cores,
             k as usize,
             &fields[f].shape,
             at,
@@ -401,16 +461,19 @@ fn leaf(num: Num, elements: &Elements, values: &[i128]) -> Slot
 }
 
 /// Reads one object: a number is a cell, of a structure the fields are to be read.
+#[allow(clippy::too_many_arguments)]
 fn read_spot(
     alloc: Global,
     program: &Program,
     table: &[Items<Extent>],
+    cores: &[Option<Plain>],
     spot: &Spot,
     values: &[i128],
     todo: &mut Vec<Spot>,
     out: &mut Vec<Slot>,
 ) -> Result<(), OutOfMemory>
     requires table { Covers program.now.structs (length program.now.structs) table.now }
+    requires cores { AreCores program.now.structs cores.now }
     requires inside { IsKnown program.now.structs spot.now.base }
     requires known { AreKnown program.now.structs todo.old.items }
     ensures known { AreKnown program.now.structs todo.new.items }
@@ -422,7 +485,16 @@ fn read_spot(
             out.push(leaf(num, &spot.elements, values))?;
             Ok(())
         }
-        Plain::Struct(k) => push_fields(alloc, program, table, k, &spot.elements, values, todo),
+        Plain::Struct(k) => push_fields(
+            alloc,
+            program,
+            table,
+            cores,
+            k,
+            &spot.elements,
+            values,
+            todo,
+        ),
     }
 }
 
@@ -447,21 +519,25 @@ pub(crate) fn slots(
     alloc: Global,
     program: &Program,
     table: &[Items<Extent>],
+    cores: &[Option<Plain>],
     shape: &Shape,
     values: &[i128],
 ) -> Result<Vec<Slot>, OutOfMemory>
-    requires { Covers program.now.structs (length program.now.structs) table.now }
+    requires table { Covers program.now.structs (length program.now.structs) table.now }
+    requires cores { AreCores program.now.structs cores.now }
     ensures { IfOk result (λ r. r.items ≡ all_slots values.now (shape_layout program.now.structs shape.now)) }
 {
     let structs = program.structs.len();
     let start = first_element(alloc, values.len())?;
     let mut todo = Vec::new(alloc);
     push_spots(
-        alloc, program, table, structs, shape, start, values, &mut todo,
+        alloc, program, table, cores, structs, shape, start, values, &mut todo,
     )?;
     let mut out = Vec::new(alloc);
     while let Some(spot) = todo.pop() {
-        read_spot(alloc, program, table, &spot, values, &mut todo, &mut out)?;
+        read_spot(
+            alloc, program, table, cores, &spot, values, &mut todo, &mut out,
+        )?;
     }
     Ok(out)
 }
