@@ -258,7 +258,7 @@ module _ (p : Program) (i : Inside) (k : ℕ) (inside : IsInside p i) (shape : i
             }
 
 -- what is read of the tables
-pub def-is : (p : Program) (i : Inside) (k : ℕ) (ds : List StructDef) (d : StructDef) → IsInside p i → i.shape.now ≡ shape.Struct k → ds ≡ p.structs → d ≡ get_or ds k d → slice_get p.structs k ≡ Some d
+pub def-is : (p : Program) (i : Inside) (k : ℕ) (ds : List StructDef) (d : StructDef) → IsInside p i → inside_layout p i ≡ among p.structs i.structs (no_array (Struct k)) → ds ≡ p.structs → d ≡ get_or ds k d → slice_get p.structs k ≡ Some d
 def-is p i k ds d inside s e h =
     slice_get_read p.structs (length p.structs) k d refl (struct-there p i k inside s) (h ∙ ap (λ (xs : List StructDef). get_or xs k d) e)
 
@@ -308,12 +308,13 @@ module _ (p : Program) (s : Spot) (x : Var) (i : Inside) (spot : IsSpot p s) (fe
     number = (let a = spot.number in omega (arith, a, cells, number));
   }
 
-pub begins-name : (p : Program) (s : Spot) (x : Var) (m : ℕ) → slice_get p.vars s.var ≡ Some x → m ≡ length p.structs →
-    (old a b d : List ℕ) → a ≡ old ++ x.name → b ≡ a ++ place_text x.home x.pos → d ≡ b ++ inner_name (among p.structs m x.shape) s.number → d ≡ old ++ spot_name p s
+pub begins-name : (p : Program) (s : Spot) (x : Var) (m : ℕ) (dims : List ℕ) → slice_get p.vars s.var ≡ Some x → m ≡ length p.structs → dims ≡ x.shape.dims →
+    (old a b d : List ℕ) → a ≡ old ++ x.name → b ≡ a ++ place_text x.home x.pos → d ≡ b ++ inner_name (among p.structs m (record { dims = dims; plain = x.shape.plain })) s.number → d ≡ old ++ spot_name p s
 unfolding spot_name
-begins-name p s x m there known old a b d e f g =
+begins-name p s x m dims there known same old a b d e f g =
     let steps = inner_name (layout_of p s.var) s.number in
-    let own : among p.structs m x.shape ≡ layout_of p s.var = ap (λ (k : ℕ). among p.structs k x.shape) known ∙ sym (whole-layout p s.var x there) in
+    let own : among p.structs m (record { dims = dims; plain = x.shape.plain }) ≡ layout_of p s.var
+    = ap (λ (ns : List ℕ). among p.structs m (record { dims = ns; plain = x.shape.plain })) same ∙ ap (λ (k : ℕ). among p.structs k x.shape) known ∙ sym (whole-layout p s.var x there) in
     g ∙ ap₂ (λ (y : List ℕ) (z : List ℕ). y ++ z) (f ∙ ap (λ (y : List ℕ). y ++ place_text x.home x.pos) e ∙ append_assoc old x.name (place_text x.home x.pos)) (ap (λ (l : Layout). inner_name l s.number) own)
     ∙ append_assoc old (x.name ++ place_text x.home x.pos) steps ∙ ap (λ (o : Option Var). old ++ (var_text o ++ steps)) (sym there)
 
