@@ -23,7 +23,7 @@ use Rattle.sa_env.specs.declared.slots.Slot.{Slot}
 use Rattle.sa_env.specs.declared.slots.Elements.{Elements}
 use Rattle.sa_env.specs.Sizes.{among, no_array, capped, made_of, extent, extents_from, Covers}
 use Rattle.sa_env.specs.Slots.{spread, values_of, or_zero, slot, slot_of, slots_in, moved_on, together, apart, fields_in}
-use Rattle.sa_env.specs.Spots.{all_slots, base_layout, IsKnown, AreKnown, spot_slots, left, work, works, weight, wound, HasWidths, IsNothing, first_element}
+use Rattle.sa_env.specs.Spots.{all_slots, base_layout, IsKnown, AreKnown, spot_slots, left, work, works, weight, wound, HasWidths, IsNothing, IsSpotOf, first_element}
 use Rattle.sa_env.proofs.SpreadLaws.{zeros}
 use Rattle.sa_env.proofs.SlotLaws.{slots-leaf, slots-apart, slots-one, slots-together, slots-fields, no-slots, length-times, apart-capped, together-capped, moved-alike, capped-alike}
 use Rattle.sa_env.proofs.StructLemmas.{among-struct, among-none, among-field}
@@ -31,7 +31,7 @@ use Rattle.sa_env.proofs.StepLemmas.{here}
 use Rattle.sa_env.proofs.SizeLemmas.{capped-left}
 
 -- ---- lists of lists
-pub flat-same : {X Y : Type 0} (f g : X → List Y) (xs : List X) → ((x : X) → f x ≡ g x) → flat_map f xs ≡ flat_map g xs
+flat-same : {X Y : Type 0} (f g : X → List Y) (xs : List X) → ((x : X) → f x ≡ g x) → flat_map f xs ≡ flat_map g xs
 flat-same f g [] h = refl
 flat-same f g (x ∷ xs) h = rw (h x, flat-same f g xs h) refl
 
@@ -57,7 +57,7 @@ pub work-small : (n : ℕ) (l : Layout) → n ≤ 128 → work (row n l) ≡ n *
 unfolding work
 work-small n l h = let t : nat_le n most_elements ≡ true = grind (arith, nat_tests) in rw t refl
 
-work-large : (n : ℕ) (l : Layout) → 128 < n → work (row n l) ≡ work l
+pub work-large : (n : ℕ) (l : Layout) → 128 < n → work (row n l) ≡ work l
 unfolding work
 work-large n l h = let t : nat_le n most_elements ≡ false = grind (arith, nat_tests) in rw t refl
 
@@ -210,25 +210,26 @@ values-spread zs [] more = refl
 values-spread zs (o ∷ os) more = ap (λ (s : Option Span). join_some (Some (single (get_or zs o (pos 0)))) s) (values-spread zs os more)
 
 -- ---- one more to be read
-module _ (structs : List StructDef) (b : Plain) (es all : List Elements) (e : Elements) (todo new : List Spot) (popped : all ≡ es ++ e ∷ []) (pushed : new ≡ todo ++ record { base = b; elements = e } ∷ []) where
-  pub spot-step : (zs : List ℤ) → flat_map (slots_in zs (base_layout structs b)) es ++ left structs zs new ≡ flat_map (slots_in zs (base_layout structs b)) all ++ left structs zs todo
+module _ (structs : List StructDef) (inner : Layout) (es all : List Elements) (e : Elements) (todo new : List Spot) (s : Spot) (is : IsSpotOf structs inner e s) (popped : all ≡ es ++ e ∷ []) (pushed : new ≡ todo ++ s ∷ []) where
+  pub spot-step : (zs : List ℤ) → flat_map (slots_in zs inner) es ++ left structs zs new ≡ flat_map (slots_in zs inner) all ++ left structs zs todo
   spot-step zs =
-      let f : Elements → List Slot = slots_in zs (base_layout structs b) in
+      let f : Elements → List Slot = slots_in zs inner in
       let rest = left structs zs todo in
       ap (λ (l : List Spot). flat_map f es ++ left structs zs l) pushed
-      ∙ ap (λ (l : List Slot). flat_map f es ++ l) (left-push structs zs todo (record { base = b; elements = e }))
+      ∙ ap (λ (l : List Slot). flat_map f es ++ l) (left-push structs zs todo s ∙ ap (λ (l : List Slot). l ++ rest) (is.slots zs))
       ∙ sym (append_assoc (flat_map f es) (f e) rest)
       ∙ ap (λ (l : List Slot). (flat_map f es ++ l) ++ rest) (sym (append-nil (f e)))
       ∙ ap (λ (l : List Slot). l ++ rest) (sym (flat_map-append f es (e ∷ [])))
       ∙ ap (λ (l : List Elements). flat_map f l ++ rest) (sym popped)
 
-  pub weight-step : length es * work (base_layout structs b) + weight structs new ≡ length all * work (base_layout structs b) + weight structs todo
+  pub weight-step : length es * work inner + weight structs new ≤ length all * work inner + weight structs todo
   weight-step =
-      let w = work (base_layout structs b) in
-      let a = ap (λ (l : List Spot). weight structs l) pushed ∙ weight-push structs todo (record { base = b; elements = e }) in
+      let w = work inner in
+      let a = ap (λ (l : List Spot). weight structs l) pushed ∙ weight-push structs todo s in
       let n = ap length popped ∙ length-append es (e ∷ []) in
       let m : length all * w ≡ length es * w + w = ap (λ (k : ℕ). k * w) n ∙ grind arith in
-      omega (arith, a, m)
+      let less = is.work in
+      omega (arith, a, m, less)
 
 -- ---- an object that has no elements
 pub nothing-read : (zs : List ℤ) (l : Layout) (e : Elements) (rest : List Slot) → capped (length (nums l)) ≡ 0 → rest ≡ slots_in zs l e ++ rest

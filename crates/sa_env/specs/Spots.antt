@@ -1,5 +1,5 @@
 -- Objects that are still to be read for their cells, the next one last.
-use Rattle.std.specs.Prelude.{ℕ, zero, suc, ◌+◌, ◌*◌, ◌≡◌, ◌<◌, ℤ, List, [], ◌∷◌, ◌++◌, length, map, ◌≤◌, if◌then◌else◌, nat_le, true, false, Option, Some, None, slice_get}
+use Rattle.std.specs.Prelude.{ℕ, zero, suc, ◌+◌, ◌*◌, ◌≡◌, ◌<◌, ℤ, List, [], ◌∷◌, ◌++◌, length, map, ◌≤◌, ◌==◌, ◌||◌, Bool, nat_lt, if◌then◌else◌, nat_le, true, false, Option, Some, None, slice_get}
 use Rattle.sa_typed.specs.Layouts.{Layout, Layouts, leaf, row, fields, no_field, field, nums}
 use Rattle.sa_typed.specs.Cells.{most_elements, inner_cells, is_starred}
 use Rattle.sa_typed.specs.declared.shape.Plain.{Plain}
@@ -7,6 +7,7 @@ use Rattle.sa_typed.specs.declared.shape.Plain.TheVariants.{Scalar, Struct}
 use Rattle.sa_typed.specs.declared.shape.Shape.{Shape}
 use Rattle.sa_typed.specs.declared.shape.StructDef.{StructDef}
 use Rattle.sa_reference.specs.Environments.{initial_span}
+use Rattle.sa_env.specs.declared.slots.Core.{Core}
 use Rattle.sa_env.specs.declared.slots.Row.{Row}
 use Rattle.sa_env.specs.declared.slots.Spot.{Spot}
 use Rattle.sa_env.specs.declared.slots.Slot.{Slot}
@@ -73,23 +74,44 @@ pub record AreArrays (structs : List StructDef) (m : ℕ) (s : Shape) (a : Array
   pub counted : a.elements ≡ capped (length (nums (among structs m s)))
 
 -- ---- types with the same cells
--- the second has the same cells at any elements, and reading them takes no more steps
-pub record IsAlike (l m : Layout) : Type 0 where
-  pub slots : (zs : List ℤ) (e : Elements) → slots_in zs l e ≡ slots_in zs m e
+-- elements that are several by a large array if they were or this says so
+abbrev pub starred_by : Bool → Elements → Elements
+starred_by s e = record { starred = e.starred || s; at = e.at; more = e.more }
+
+-- the second has the same cells, starred if this says so, at any elements; if it does, at those without initial values. And
+-- reading them takes no more steps
+pub record IsAlike (s : Bool) (l m : Layout) : Type 0 where
+  pub slots : (zs : List ℤ) (e : Elements) → (s ≡ true → e.at ≡ []) → slots_in zs l e ≡ slots_in zs m (starred_by s e)
   pub work : work m ≤ work l
 
 -- a type that is no array and stands for another
-pub record IsCore (structs : List StructDef) (l : Layout) (c : Plain) : Type 0 where
-  pub known : IsKnown structs c
-  pub alike : IsAlike l (base_layout structs c)
+pub record IsCore (structs : List StructDef) (l : Layout) (c : Core) : Type 0 where
+  pub known : IsKnown structs c.plain
+  pub alike : IsAlike c.starred l (base_layout structs c.plain)
 
 -- what is listed for some of the first structures stands for them
-abbrev pub StandFor : List StructDef → List (Option Plain) → Type 0
-StandFor structs cores = (k : ℕ) (c : Plain) → slice_get cores k ≡ Some (Some c) → IsCore structs (base_layout structs (Struct k)) c
+abbrev pub StandFor : List StructDef → List (Option Core) → Type 0
+StandFor structs cores = (k : ℕ) (c : Core) → slice_get cores k ≡ Some (Some c) → IsCore structs (base_layout structs (Struct k)) c
 
-pub record AreCores (structs : List StructDef) (cores : List (Option Plain)) : Type 0 where
+pub record AreCores (structs : List StructDef) (cores : List (Option Core)) : Type 0 where
   pub long : length cores ≡ length structs
   pub each : StandFor structs cores
+
+-- a type that is no array and is one of the first, and what stands for it
+pub record IsBase (structs : List StructDef) (m : ℕ) (x : Plain) (c : Core) : Type 0 where
+  pub known : IsKnown structs x
+  pub own : among structs m (no_array x) ≡ base_layout structs x
+  pub core : IsCore structs (among structs m (no_array x)) c
+
+-- what is to be read has the cells of a layout at these elements
+pub record IsSpotOf (structs : List StructDef) (l : Layout) (e : Elements) (s : Spot) : Type 0 where
+  pub known : IsKnown structs s.base
+  pub slots : (zs : List ℤ) → spot_slots structs zs s ≡ slots_in zs l e
+  pub work : work (base_layout structs s.base) ≤ work l
+
+-- one element or a large array
+abbrev pub is_single : ℕ → Bool
+is_single n = n == 1 || nat_lt 128 n
 
 abbrev pub IsNothing : List StructDef → ℕ → Plain → Type 0
 IsNothing structs m x = length (nums (among structs m (no_array x))) ≡ 0

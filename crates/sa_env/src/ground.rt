@@ -11,10 +11,10 @@ ghost use Rattle.sa_env.specs.Stretches.{stretches, next_at, next_for, moved_nex
 
 use crate::OutOfMemory;
 use crate::sizes::shape_extent;
-use crate::slots::{Slot, cores, slots};
+use crate::slots::{Core, Slot, cores, slots};
 use sa_base::Num;
 use sa_interval::Interval;
-use sa_typed::{FieldDef, Home, Plain, Program, Var};
+use sa_typed::{FieldDef, Home, Program, Var};
 use sqlite_items::Items;
 use std::alloc::Global;
 
@@ -41,7 +41,7 @@ pub struct Ground {
     pub starred: Items<bool>,
     pub vars: Items<Stretch>,
     pub structs: Items<Items<Extent>>,
-    pub cores: Items<Option<Plain>>,
+    pub cores: Items<Option<Core>>,
 }
 
 impl Ground {
@@ -241,7 +241,7 @@ fn bare_slots(
     alloc: Global,
     program: &Program,
     table: &[Items<Extent>],
-    cores: &[Option<Plain>],
+    cores: &[Option<Core>],
 ) -> Result<Vec<Slot>, OutOfMemory>
     requires table { Covers program.now.structs (length program.now.structs) table.now }
     requires cores { AreCores program.now.structs cores.now }
@@ -259,7 +259,7 @@ fn push_sort(
     alloc: Global,
     program: &Program,
     table: &[Items<Extent>],
-    cores: &[Option<Plain>],
+    cores: &[Option<Core>],
     sort: Sort,
     all: &mut Vec<Slot>,
 ) -> Result<(), OutOfMemory>
@@ -278,7 +278,7 @@ fn push_var(
     alloc: Global,
     program: &Program,
     table: &[Items<Extent>],
-    cores: &[Option<Plain>],
+    cores: &[Option<Core>],
     sort: Sort,
     var: &Var,
     all: &mut Vec<Slot>,

@@ -1,16 +1,16 @@
 //! The cells of a variable, in their order: their types, and what they begin with.
 
-ghost use Rattle.std.specs.Prelude.{ℕ, List, ◌≡◌, ◌+◌, ◌*◌, ◌≤◌, ◌<◌, ℤ, pos, Some, None, [], ◌∷◌, ◌++◌, length, map, get_or, option_map, nat_lt, if◌then◌else◌, IfOk, OnOk, MatchOption, slice_get, ◌==◌};
-ghost use Rattle.std.specs.List.{flat_map, list_all};
+ghost use Rattle.std.specs.Prelude.{ℕ, List, ◌≡◌, ◌+◌, ◌*◌, ◌≤◌, ◌<◌, ℤ, pos, Some, None, [], ◌∷◌, ◌++◌, length, map, get_or, option_map, nat_lt, if◌then◌else◌, IfOk, OnOk, MatchOption, slice_get};
+ghost use Rattle.std.specs.List.{flat_map, list_all, list_any};
 ghost use Rattle.sa_interval.specs.Rows.{single, join_some};
 ghost use Rattle.sa_typed.specs.Layouts.{Layout, nums, shape_layout};
 ghost use Rattle.sa_typed.specs.Layouts as layouts;
-ghost use Rattle.sa_typed.specs.declared.shape.Plain.{Plain};
+ghost use Rattle.sa_env.specs.declared.slots.Core.{Core};
 ghost use Rattle.sa_typed.specs.declared.shape.Plain.TheVariants.{Struct};
 ghost use Rattle.sa_typed.specs.declared.shape.StructDef.{StructDef};
 ghost use Rattle.sa_env.specs.Sizes.{among, no_array, capped, made_of, Covers};
 ghost use Rattle.sa_env.specs.Slots.{values_of, or_zero, slot, slots_in, kept, any_past, moved_on, run, stops, any_stops, together, apart};
-ghost use Rattle.sa_env.specs.Spots.{all_slots, base_layout, IsKnown, AreKnown, spot_slots, left, work, weight, wound, HasWidths, AreArrays, StandFor, AreCores, IsCore, IsNothing, ends_span, first_element};
+ghost use Rattle.sa_env.specs.Spots.{all_slots, base_layout, IsKnown, AreKnown, spot_slots, left, work, weight, wound, HasWidths, AreArrays, StandFor, AreCores, IsCore, IsBase, IsSpotOf, IsNothing, is_single, ends_span, first_element};
 
 use crate::OutOfMemory;
 use crate::ground::Extent;
@@ -44,6 +44,13 @@ struct Elements {
 struct Spot {
     base: Plain,
     elements: Elements,
+}
+
+/// A type that is no array and stands for another, whose cells it has: starred if this says so.
+#[derive(Clone, Copy, Debug)]
+pub struct Core {
+    plain: Plain,
+    starred: bool,
 }
 
 /// An array: how many there are, and how many elements each of them has.
@@ -257,7 +264,7 @@ fn push_spots(
     alloc: Global,
     program: &Program,
     table: &[Items<Extent>],
-    cores: &[Option<Plain>],
+    cores: &[Option<Core>],
     structs: usize,
     shape: &Shape,
     elements: Elements,
@@ -275,45 +282,67 @@ fn push_spots(
     if arrays.elements == 0 {
         return Ok(());
     }
-    let Some(base) = base_of(program, cores, structs, shape.plain) else {
+    let Some(core) = base_of(program, cores, structs, shape.plain) else {
         return Ok(());
     };
     let mut all = all_within(alloc, arrays.rows, elements, values.len())?;
     while let Some(elements) = all.pop() {
-        todo.push(Spot { base, elements })?;
+        todo.push(spot_of(program, structs, shape.plain, core, elements))?;
     }
     Ok(())
 }
 
 /// What stands for a type that is no array, None where it is a structure that isn't one of the first `structs`.
-fn base_of(
-    program: &Program,
-    cores: &[Option<Plain>],
-    structs: usize,
-    plain: Plain,
-) -> Option<Plain>
+fn base_of(program: &Program, cores: &[Option<Core>], structs: usize, plain: Plain) -> Option<Core>
     requires known { structs ≤ length cores.now }
     requires fits { structs ≤ length program.now.structs }
     requires cores { StandFor program.now.structs cores.now }
-    ensures { MatchOption result (IsNothing program.now.structs structs plain) (IsCore program.now.structs (among program.now.structs structs (no_array plain))) }
+    ensures { MatchOption result (IsNothing program.now.structs structs plain) (IsBase program.now.structs structs plain) }
 {
+    let own = Core {
+        plain,
+        starred: false,
+    };
     match plain {
-        Plain::Scalar(_) => Some(plain),
+        Plain::Scalar(_) => Some(own),
         Plain::Struct(k) => {
             if structs <= k as usize {
                 return None;
             }
             match cores[k as usize] {
-                None => Some(plain),
+                None => Some(own),
                 Some(core) => Some(core),
             }
         }
     }
 }
 
-/// Of each structure that has the same cells as a simpler type that type: what is left when structures of one field with one
-/// element are unwrapped. So an object of a long chain of such structures is read in one step.
-pub(crate) fn cores(alloc: Global, program: &Program) -> Result<Items<Option<Plain>>, OutOfMemory>
+/// What is to be read at some elements, of a type for which another stands.
+fn spot_of(program: &Program, structs: usize, plain: Plain, core: Core, elements: Elements) -> Spot
+    requires { IsBase program.now.structs structs plain core }
+    ensures { IsSpotOf program.now.structs (among program.now.structs structs (no_array plain)) elements result }
+{
+    if core.starred && !elements.at.as_slice().is_empty() {
+        return Spot {
+            base: plain,
+            elements,
+        };
+    }
+    let Elements { starred, at, more } = elements;
+    Spot {
+        base: core.plain,
+        elements: Elements {
+            starred: starred | core.starred,
+            at,
+            more,
+        },
+    }
+}
+
+/// Of each structure that has the same cells as a simpler type that type: what is left when structures of one field are
+/// unwrapped, as long as the field has one element or is a large array. So an object of a long chain of such structures is
+/// read in one step.
+pub(crate) fn cores(alloc: Global, program: &Program) -> Result<Items<Option<Core>>, OutOfMemory>
     ensures { IfOk result (AreCores program.now.structs) }
 {
     let structs = program.structs.as_slice();
@@ -326,32 +355,42 @@ pub(crate) fn cores(alloc: Global, program: &Program) -> Result<Items<Option<Pla
 }
 
 /// What stands for the structure with this number and these fields, if there is another type that does.
-fn core_of(
-    program: &Program,
-    cores: &[Option<Plain>],
-    k: usize,
-    fields: &[FieldDef],
-) -> Option<Plain>
+fn core_of(program: &Program, cores: &[Option<Core>], k: usize, fields: &[FieldDef]) -> Option<Core>
     requires known { k ≡ length cores.now }
     requires fits { k < length program.now.structs }
     requires cores { StandFor program.now.structs cores.now }
     requires fields { (d : StructDef) → slice_get program.now.structs k ≡ Some d → fields.now ≡ d.fields }
-    ensures { (c : Plain) → result ≡ Some c → IsCore program.now.structs (base_layout program.now.structs (Struct k)) c }
+    ensures { (c : Core) → result ≡ Some c → IsCore program.now.structs (base_layout program.now.structs (Struct k)) c }
 {
     if fields.len() != 1 {
         return None;
     }
     let shape = &fields[0].shape;
-    if !are_ones(shape.dims.as_slice()) {
+    if !are_single(shape.dims.as_slice()) {
         return None;
     }
-    base_of(program, cores, k, shape.plain)
+    let starred = any_large(shape.dims.as_slice());
+    match base_of(program, cores, k, shape.plain) {
+        None => None,
+        Some(core) => {
+            Some(Core {
+                plain: core.plain,
+                starred: starred | core.starred,
+            })
+        }
+    }
 }
 
-fn are_ones(dims: &[u32]) -> bool
-    ensures { result ≡ list_all (λ n. n == 1) dims.now }
+fn are_single(dims: &[u32]) -> bool
+    ensures { result ≡ list_all is_single dims.now }
 {
-    dims.iter().all(|n| *n == 1)
+    dims.iter().all(|n| *n == 1 || *n > 128)
+}
+
+fn any_large(dims: &[u32]) -> bool
+    ensures { result ≡ list_any (λ n. nat_lt 128 n) dims.now }
+{
+    dims.iter().any(|n| *n > 128)
 }
 
 /// Adds the fields of a structure at some elements.
@@ -360,7 +399,7 @@ fn push_fields(
     alloc: Global,
     program: &Program,
     table: &[Items<Extent>],
-    cores: &[Option<Plain>],
+    cores: &[Option<Core>],
     k: u32,
     elements: &Elements,
     values: &[i128],
@@ -466,7 +505,7 @@ fn read_spot(
     alloc: Global,
     program: &Program,
     table: &[Items<Extent>],
-    cores: &[Option<Plain>],
+    cores: &[Option<Core>],
     spot: &Spot,
     values: &[i128],
     todo: &mut Vec<Spot>,
@@ -519,7 +558,7 @@ pub(crate) fn slots(
     alloc: Global,
     program: &Program,
     table: &[Items<Extent>],
-    cores: &[Option<Plain>],
+    cores: &[Option<Core>],
     shape: &Shape,
     values: &[i128],
 ) -> Result<Vec<Slot>, OutOfMemory>

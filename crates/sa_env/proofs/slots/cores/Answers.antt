@@ -1,6 +1,6 @@
 use Rattle.std.proofs.Common.{◌≡◌, ◌∙◌, ◌+◌, ◌∷◌, ◌++◌, [], ap, sym, subst, ℕ, List, length, get_or, length-append, arith, Option, Some}
 use Rattle.std.proofs.lemmas.Option.{get_or_from_slice_get}
-use Rattle.sa_typed.specs.declared.shape.Plain.{Plain}
+use Rattle.sa_env.specs.declared.slots.Core.{Core}
 use Rattle.sa_typed.specs.declared.shape.Plain.TheVariants.{Struct}
 use Rattle.sa_typed.specs.declared.shape.StructDef.{StructDef}
 use Rattle.sa_env.specs.Spots.{base_layout, IsCore, StandFor}
@@ -8,7 +8,7 @@ use Rattle.sa_env.proofs.CoreLemmas.{cores-more}
 use Rattle.sa_env.proofs.slots.cores.Goals as goal
 
 pub core_of-core-requires-clause-cores : goal.core_of-core-requires-clause-cores
-core_of-core-requires-clause-cores c = subst (λ (l : List (Option Plain)). StandFor c.args.program.now.structs l) (sym c.deref.ensures.value) c.loop-k.invariant.each
+core_of-core-requires-clause-cores c = subst (λ (l : List (Option Core)). StandFor c.args.program.now.structs l) (sym c.deref.ensures.value) c.loop-k.invariant.each
 
 pub core_of-core-requires-clause-fields : goal.core_of-core-requires-clause-fields
 core_of-core-requires-clause-fields c = λ d made.
@@ -41,5 +41,5 @@ returns c =
     let m = ap length c.from_vec.ensures in
     record {
       long = omega (arith, end, last, long, n, m);
-      each = subst (λ (l : List (Option Plain)). StandFor p l) (sym c.from_vec.ensures) c.loop-k.invariant.each;
+      each = subst (λ (l : List (Option Core)). StandFor p l) (sym c.from_vec.ensures) c.loop-k.invariant.each;
     }
