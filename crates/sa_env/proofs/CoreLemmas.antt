@@ -16,7 +16,7 @@ use Rattle.sa_env.specs.declared.slots.Elements.{Elements}
 use Rattle.sa_env.specs.declared.slots.Slot.{Slot}
 use Rattle.sa_env.specs.Sizes.{among, no_array, made_of}
 use Rattle.sa_env.specs.Slots.{slots_in, moved_on, apart, together, any_stops, fields_in}
-use Rattle.sa_env.specs.Spots.{base_layout, work, works, IsKnown, starred_by, IsAlike, IsCore, StandFor, IsBase, IsSpotOf, is_single}
+use Rattle.sa_env.specs.Spots.{base_layout, work, works, IsKnown, starred_by, IsAlike, IsCore, StandFor, IsBase, is_single}
 use Rattle.sa_env.proofs.SlotLaws.{slots-apart, slots-one, slots-together, slots-fields, moved-alike}
 use Rattle.sa_env.proofs.SizeLemmas.{among-rows, one-times}
 use Rattle.sa_env.proofs.SpotLemmas.{among-own, work-small, work-large}
@@ -161,22 +161,6 @@ single-core structs k d x c made one single core =
     (core-along structs false (fields (field x.name l no_field)) l c.plain (s || c.starred) (alike-field x.name l)
     (core-along structs false l (rows x.shape.dims inner) c.plain (s || c.starred) (alike-same l (rows x.shape.dims inner) (among-rows structs k x.shape))
     (core-along structs s (rows x.shape.dims inner) inner c.plain c.starred (alike-rows x.shape.dims inner single) core)))
-
--- ---- what is to be read
-pub spot-own : (structs : List StructDef) (m : ℕ) (x : Plain) (c : Core) (e : Elements) → IsBase structs m x c → IsSpotOf structs (among structs m (no_array x)) e (record { base = x; elements = e })
-spot-own structs m x c e h = record {
-  known = h.known;
-  slots = λ zs. ap (λ (l : Layout). slots_in zs l e) (sym h.own);
-  work = let w = ap work h.own in omega (arith, w);
-}
-
-pub spot-core : (structs : List StructDef) (m : ℕ) (x : Plain) (c : Core) (e : Elements) → (c.starred ≡ true → e.at ≡ []) → IsBase structs m x c →
-    IsSpotOf structs (among structs m (no_array x)) e (record { base = c.plain; elements = starred_by c.starred e })
-spot-core structs m x c e none h = record {
-  known = h.core.known;
-  slots = λ zs. sym (h.core.alike.slots zs e none);
-  work = h.core.alike.work;
-}
 
 pub one-field : (fs : List FieldDef) (x : FieldDef) → length fs ≡ 1 → fs ≡ get_or fs 0 x ∷ []
 one-field [] x h = absurd cc
