@@ -4,11 +4,11 @@ use Rattle.std.specs.Prelude.{min, slice_get, option_map, Option, Some, None}
 use Rattle.std.proofs.lemmas.List.{drop_more, drop_all}
 use Rattle.std.proofs.lemmas.Option.{slice_get_within, slice_get-get_or, get_or_from_slice_get, slice_get_read}
 use Rattle.sa_typed.specs.Layouts.{Layout, Layouts, fields, no_field, field, nums, nth_field, before_field, layout_with, layouts_with, struct_layout}
+use Rattle.sa_typed.specs.declared.shape.Plain.TheVariants.{Struct}
 use Rattle.sa_typed.specs.declared.shape.Shape.{Shape}
 use Rattle.sa_typed.specs.declared.shape.FieldDef.{FieldDef}
 use Rattle.sa_typed.specs.declared.shape.StructDef.{StructDef}
 use Rattle.sa_env.specs.declared.ground.Extent.{Extent}
-use Rattle.sa_env.specs.declared.slots.Base.TheVariants as base
 use Rattle.sa_env.specs.declared.slots.Slot.{Slot}
 use Rattle.sa_env.specs.declared.slots.Elements.{Elements}
 use Rattle.sa_env.specs.Sizes.{among, capped, cells_before, fields_of, made_of, extent, extents_from, Covers}
@@ -75,19 +75,19 @@ module _ (structs : List StructDef) (k : ℕ) (fs : List FieldDef) where
   fields-last zs b e = ap (λ (l : List FieldDef). fields_in zs (fields_of structs k l) b e) (drop_all (length fs) fs (omega arith))
 
 module _ (structs : List StructDef) (k : ℕ) (d : StructDef) (made : slice_get structs k ≡ Some d) where
-  struct-is : base_layout structs (base.Struct k) ≡ fields (made_of structs k d)
+  struct-is : base_layout structs (Struct k) ≡ fields (made_of structs k d)
   unfolding base_layout
   struct-is = let w = slice_get_within structs k d made in among-struct structs (suc k) k d (omega (arith, w)) (omega arith) made
 
   pub fields-whole : (zs : List ℤ) (e : Elements) (f : ℕ) → f ≤ 0 →
-      fields_in zs (fields_of structs k (drop f d.fields)) (before_field (fields_of structs k d.fields) f) e ≡ slots_in zs (base_layout structs (base.Struct k)) e
+      fields_in zs (fields_of structs k (drop f d.fields)) (before_field (fields_of structs k d.fields) f) e ≡ slots_in zs (base_layout structs (Struct k)) e
   fields-whole zs e f h =
       let none : f ≡ 0 = omega arith in
       ap (λ (i : ℕ). fields_in zs (fields_of structs k (drop i d.fields)) (before_field (fields_of structs k d.fields) i) e) none
       ∙ ap (λ (b : ℕ). fields_in zs (fields_of structs k d.fields) b e) (first-before (fields_of structs k d.fields))
       ∙ sym (slots-fields zs (made_of structs k d) e) ∙ ap (λ (l : Layout). slots_in zs l e) (sym struct-is)
 
-  pub works-whole : (f : ℕ) → f ≤ 0 → work (base_layout structs (base.Struct k)) ≡ suc (works (fields_of structs k (drop f d.fields)))
+  pub works-whole : (f : ℕ) → f ≤ 0 → work (base_layout structs (Struct k)) ≡ suc (works (fields_of structs k (drop f d.fields)))
   unfolding work
   works-whole f h =
       let none : f ≡ 0 = omega arith in

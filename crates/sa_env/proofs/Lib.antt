@@ -9,6 +9,7 @@ pub mod SlotLaws
 pub mod SizeLemmas
 pub mod RunLemmas
 pub mod SpotLemmas
+pub mod CoreLemmas
 pub mod FieldLemmas
 pub mod GroundLemmas
 pub mod TypedLemmas

@@ -1,17 +1,19 @@
 -- How many cells and elements there are, in numbers of a machine word.
-use Rattle.std.proofs.Common.{◌≡◌, ℕ, zero, suc, ◌+◌, ◌-◌, ◌*◌, ◌^◌, ◌<◌, ◌≤◌, true, false, List, [], ◌∷◌, length, reverse, take, refl, sym, ap, subst, ◌∙◌, inl, inr, length-append, add-zero, zero-add, arith}
+use Rattle.std.proofs.Common.{◌≡◌, ℕ, zero, suc, ◌+◌, ◌-◌, ◌*◌, ◌^◌, ◌<◌, ◌≤◌, true, false, List, [], ◌∷◌, length, reverse, take, drop, get_or, refl, sym, ap, subst, ◌∙◌, inl, inr, length-append, add-zero, zero-add, arith}
 use Rattle.std.specs.Prelude.{min, nat_le, slice_get, Option, Some, None}
+use Rattle.std.proofs.lemmas.List.{drop_more, drop_all}
 use Rattle.std.proofs.lemmas.Bool.{cases_lt}
 use Rattle.std.proofs.lemmas.Bool.Decides.{nat_tests}
-use Rattle.sa_typed.specs.Layouts.{Layout, Layouts, leaf, row, fields, no_field, field, nums, all_nums, nth_field, before_field, layout_with}
+use Rattle.sa_typed.specs.Layouts.{Layout, Layouts, leaf, row, fields, no_field, field, nums, all_nums, nth_field, before_field, layout_with, rows}
 use Rattle.sa_typed.specs.Cells.{inner_cells, field_cells, most_elements}
-use Rattle.sa_typed.specs.declared.shape.Shape.{Shape, Scalar, Struct, Array', end_of-Shape, more_of-Shape}
-use Rattle.sa_typed.specs.declared.shape.Shape as shape
+use Rattle.sa_typed.specs.declared.shape.Plain.{Plain}
+use Rattle.sa_typed.specs.declared.shape.Plain.TheVariants.{Scalar, Struct}
+use Rattle.sa_typed.specs.declared.shape.Shape.{Shape}
 use Rattle.sa_typed.specs.declared.shape.StructDef.{StructDef}
 use Rattle.sa_env.specs.declared.ground.Extent.{Extent}
-use Rattle.sa_env.specs.Sizes.{size, sizes, cells_before, cells_for, extent, extent_of, extents_from, all_extents, among, made_of, Covers, IsPlain}
+use Rattle.sa_env.specs.Sizes.{size, sizes, cells_before, cells_for, extent, extent_of, extents_from, all_extents, among, no_array, made_of, Covers}
 use Rattle.sa_env.proofs.StructLemmas.{among-none, among-struct, extents-at, fields_count}
-use Rattle.sa_env.proofs.StepLemmas.{array-layout, size-small, size-large, size-of-fields}
+use Rattle.sa_env.proofs.StepLemmas.{here, size-small, size-large, size-of-fields}
 use Rattle.sa_env.proofs.SlotLaws.{length-times}
 
 -- ---- structures
@@ -19,17 +21,12 @@ pub nothing-extent : extent_of (fields no_field) ≡ record { cells = 0; element
 unfolding size inner_cells field_cells nums all_nums
 nothing-extent = refl
 
-pub number-extent : (structs : List StructDef) (m : ℕ) (s : Shape) (num : _) → s ≡ Scalar num → extent_of (among structs m s) ≡ record { cells = 1; elements = 1 }
-unfolding size inner_cells nums among layout_with
-number-extent structs m s num h = ap (λ (t : Shape). extent_of (among structs m t)) h
+pub number-extent : (structs : List StructDef) (m : ℕ) (s : Plain) (num : _) → s ≡ Scalar num → extent_of (among structs m (no_array s)) ≡ record { cells = 1; elements = 1 }
+unfolding size inner_cells nums among layout_with rows
+number-extent structs m s num h = ap (λ (t : Plain). extent_of (among structs m (no_array t))) h
 
-pub beyond-extent : (structs : List StructDef) (m k : ℕ) → m ≤ length structs → m ≤ k → extent_of (among structs m (Struct k)) ≡ record { cells = 0; elements = 0 }
+pub beyond-extent : (structs : List StructDef) (m k : ℕ) → m ≤ length structs → m ≤ k → extent_of (among structs m (no_array (Struct k))) ≡ record { cells = 0; elements = 0 }
 beyond-extent structs m k h l = ap (λ (t : Layout). extent_of t) (among-none structs m k h l) ∙ nothing-extent
-
-pub here : {X : Type 0} (xs : List X) (i : ℕ) → i < length xs → (x : X) × (slice_get xs i ≡ Some x)
-here [] i h = absurd (omega arith)
-here (x ∷ xs) zero h = (x, refl)
-here (x ∷ xs) (suc i) h = here xs i (omega arith)
 
 all-before : (ls : Layouts) → (cells_before ls (fields_count ls) ≡ sizes ls) × (before_field ls (fields_count ls) ≡ length (all_nums ls))
 unfolding cells_before before_field fields_count sizes all_nums
@@ -64,7 +61,7 @@ module _ (structs : List StructDef) (m : ℕ) (table : List (List Extent)) (cove
   pub in-table : slice_get table k ≡ None → ⊥
   in-table h = let c = covered in let e = c.2 in cc
 
-  pub extents-some : (es : List Extent) → slice_get table k ≡ Some es → slice_get es (length es - 1) ≡ Some (extent_of (among structs m (Struct k)))
+  pub extents-some : (es : List Extent) → slice_get table k ≡ Some es → slice_get es (length es - 1) ≡ Some (extent_of (among structs m (no_array (Struct k))))
   extents-some es h =
       let c = covered in
       let same : es ≡ extents_from 0 0 (made_of structs k c.0) = let e = c.2 in cc in
@@ -72,6 +69,9 @@ module _ (structs : List StructDef) (m : ℕ) (table : List (List Extent)) (cove
       ∙ ap (λ (t : Layout). Some (extent_of t)) (sym (among-struct structs m k c.0 covers.known less c.1))
 
 -- ---- products
+pub one-times : (n : ℕ) → 1 * n ≡ n
+one-times n = grind arith
+
 pub capped-left : (a x : ℕ) → min (min a (2 ^ 64 - 1) * x) (2 ^ 64 - 1) ≡ min (a * x) (2 ^ 64 - 1)
 capped-left a zero = let e : min a (2 ^ 64 - 1) * 0 ≡ 0 = grind arith in let f : a * 0 ≡ 0 = grind arith in rw (e, f) refl
 capped-left a (suc x) = elim (cases_lt a (2 ^ 64 - 1)) [
@@ -96,24 +96,33 @@ size-row n l = elim (cases_lt 128 n) [
   | inr small ↦ let t : nat_le n most_elements ≡ true = grind (arith, nat_tests, small) in rw t (size-small n l small)
 ]
 
-module _ (structs : List StructDef) (m n : ℕ) (s e : Shape) (is : s ≡ shape.Array e n) where
-  pub cells-step : (c : ℕ) → min (min (c * cells_for n) (2 ^ 64 - 1) * size (among structs m e)) (2 ^ 64 - 1) ≡ min (c * size (among structs m s)) (2 ^ 64 - 1)
-  cells-step c =
-      let l = ap (λ (t : Shape). among structs m t) is ∙ array-layout structs m n e in
-      let z = ap size l ∙ size-row n (among structs m e) in
-      let g : c * cells_for n * size (among structs m e) ≡ c * (cells_for n * size (among structs m e)) = grind arith in
-      capped-left (c * cells_for n) (size (among structs m e)) ∙ ap (λ (k : ℕ). min k (2 ^ 64 - 1)) (g ∙ ap (λ (k : ℕ). c * k) (sym z))
+-- the dimensions from one on
+module _ (dims : List ℕ) (i n : ℕ) (l : Layout) (less : i < length dims) (is : n ≡ get_or dims i 0) where
+  pub next-row : rows (drop i dims) l ≡ row n (rows (drop (i + 1) dims) l)
+  unfolding rows
+  next-row = ap (λ (ns : List ℕ). rows ns l) (drop_more dims i 0 less) ∙ ap (λ (k : ℕ). row k (rows (drop (i + 1) dims) l)) (sym is)
 
-  pub elements-step : (c : ℕ) → min (min (c * n) (2 ^ 64 - 1) * length (nums (among structs m e))) (2 ^ 64 - 1) ≡ min (c * length (nums (among structs m s))) (2 ^ 64 - 1)
+  pub cells-step : (c : ℕ) → min (min (c * cells_for n) (2 ^ 64 - 1) * size (rows (drop (i + 1) dims) l)) (2 ^ 64 - 1) ≡ min (c * size (rows (drop i dims) l)) (2 ^ 64 - 1)
+  cells-step c =
+      let e = rows (drop (i + 1) dims) l in
+      let z = ap size next-row ∙ size-row n e in
+      let g : c * cells_for n * size e ≡ c * (cells_for n * size e) = grind arith in
+      capped-left (c * cells_for n) (size e) ∙ ap (λ (k : ℕ). min k (2 ^ 64 - 1)) (g ∙ ap (λ (k : ℕ). c * k) (sym z))
+
+  pub elements-step : (c : ℕ) → min (min (c * n) (2 ^ 64 - 1) * length (nums (rows (drop (i + 1) dims) l))) (2 ^ 64 - 1) ≡ min (c * length (nums (rows (drop i dims) l))) (2 ^ 64 - 1)
   unfolding nums
   elements-step c =
-      let l = ap (λ (t : Shape). among structs m t) is ∙ array-layout structs m n e in
-      let z = ap (λ (t : Layout). length (nums t)) l ∙ length-times n (nums (among structs m e)) in
-      let g : c * n * length (nums (among structs m e)) ≡ c * (n * length (nums (among structs m e))) = grind arith in
-      capped-left (c * n) (length (nums (among structs m e))) ∙ ap (λ (k : ℕ). min k (2 ^ 64 - 1)) (g ∙ ap (λ (k : ℕ). c * k) (sym z))
+      let e = rows (drop (i + 1) dims) l in
+      let z = ap (λ (t : Layout). length (nums t)) next-row ∙ length-times n (nums e) in
+      let g : c * n * length (nums e) ≡ c * (n * length (nums e)) = grind arith in
+      capped-left (c * n) (length (nums e)) ∙ ap (λ (k : ℕ). min k (2 ^ 64 - 1)) (g ∙ ap (λ (k : ℕ). c * k) (sym z))
 
-pub plain : (s : Shape) → ((e : Shape) (n : ℕ) → s ≡ shape.Array e n → ⊥) → IsPlain s
-unfolding Rattle.sa_typed.specs.declared.shape.Shape.TheBlock.hidden-the_row-Shape-0 denote.Hole.Carrier.hidden
-plain (Scalar num) h = tt
-plain (Struct k) h = tt
-plain (Array' n (more_of-Shape t end_of-Shape) dim) h = h t dim refl
+-- a shape is its dimensions around its base
+pub among-rows : (structs : List StructDef) (m : ℕ) (s : Shape) → among structs m s ≡ rows s.dims (among structs m (no_array s.plain))
+unfolding among layout_with rows
+among-rows structs m s = refl
+
+-- no dimension is left
+pub no-dims : (dims : List ℕ) (i : ℕ) (l : Layout) → length dims ≤ i → rows (drop i dims) l ≡ l
+unfolding rows
+no-dims dims i l h = ap (λ (ns : List ℕ). rows ns l) (drop_all i dims h)

@@ -4,31 +4,31 @@ use Rattle.std.specs.Prelude.{◌==◌, if◌then◌else◌, nat_lt, nat_le, min
 use Rattle.std.specs.List.{flat_map}
 use Rattle.std.proofs.lemmas.Bool.{cases_lt}
 use Rattle.std.proofs.lemmas.Bool.Decides.{nat_tests}
-use Rattle.std.proofs.lemmas.List.{drop_more, drop_all, length-map}
+use Rattle.std.proofs.lemmas.List.{drop_more, drop_all, take_more, length-map}
 use Rattle.std.proofs.lemmas.Grind.{flat_map-append}
 use Rattle.sa_interval.specs.Span.{Span}
 use Rattle.sa_interval.specs.Rows.{single, join_some}
 use Rattle.sa_base.specs.declared.num.Num.{Num}
-use Rattle.sa_typed.specs.Layouts.{Layout, Layouts, leaf, row, fields, no_field, field, nums, all_nums, nth_field, before_field, layout_with, layouts_with, struct_layout}
+use Rattle.sa_typed.specs.Layouts.{Layout, Layouts, leaf, row, fields, no_field, field, nums, all_nums, nth_field, before_field, layout_with, layouts_with, struct_layout, rows}
 use Rattle.sa_typed.specs.Cells.{Inner, inner_cells, is_starred, most_elements}
-use Rattle.sa_typed.specs.declared.shape.Shape.{Shape, Scalar, Struct, Array', end_of-Shape, more_of-Shape}
+use Rattle.sa_typed.specs.declared.shape.Plain.{Plain}
+use Rattle.sa_typed.specs.declared.shape.Plain.TheVariants.{Scalar, Struct}
 use Rattle.sa_typed.specs.declared.shape.FieldDef.{FieldDef}
 use Rattle.sa_typed.specs.declared.shape.StructDef.{StructDef}
 use Rattle.sa_reference.specs.Environments.{initial_span}
 use Rattle.sa_env.specs.declared.ground.Extent.{Extent}
-use Rattle.sa_env.specs.declared.slots.Base.{Base}
-use Rattle.sa_env.specs.declared.slots.Base.TheVariants as base
 use Rattle.sa_env.specs.declared.slots.Row.{Row}
 use Rattle.sa_env.specs.declared.slots.Spot.{Spot}
 use Rattle.sa_env.specs.declared.slots.Slot.{Slot}
 use Rattle.sa_env.specs.declared.slots.Elements.{Elements}
-use Rattle.sa_env.specs.Sizes.{among, capped, made_of, extent, extents_from, Covers, IsPlain}
+use Rattle.sa_env.specs.Sizes.{among, no_array, capped, made_of, extent, extents_from, Covers}
 use Rattle.sa_env.specs.Slots.{spread, values_of, or_zero, slot, slot_of, slots_in, moved_on, together, apart, fields_in}
-use Rattle.sa_env.specs.Spots.{all_slots, base_layout, IsKnown, AreKnown, spot_slots, left, work, works, weight, rows, wound, HasWidths, base_of, first_element}
+use Rattle.sa_env.specs.Spots.{all_slots, base_layout, IsKnown, AreKnown, spot_slots, left, work, works, weight, wound, HasWidths, IsNothing, IsSpotOf, first_element}
 use Rattle.sa_env.proofs.SpreadLaws.{zeros}
 use Rattle.sa_env.proofs.SlotLaws.{slots-leaf, slots-apart, slots-one, slots-together, slots-fields, no-slots, length-times, apart-capped, together-capped, moved-alike, capped-alike}
 use Rattle.sa_env.proofs.StructLemmas.{among-struct, among-none, among-field}
-use Rattle.sa_env.proofs.SizeLemmas.{here, capped-left}
+use Rattle.sa_env.proofs.StepLemmas.{here}
+use Rattle.sa_env.proofs.SizeLemmas.{capped-left}
 
 -- ---- lists of lists
 flat-same : {X Y : Type 0} (f g : X → List Y) (xs : List X) → ((x : X) → f x ≡ g x) → flat_map f xs ≡ flat_map g xs
@@ -53,11 +53,11 @@ unfolding apart
 length-apart n w zero j e = refl
 length-apart n w (suc k) j e = ap suc (length-apart n w k (j + 1) e)
 
-work-small : (n : ℕ) (l : Layout) → n ≤ 128 → work (row n l) ≡ n * work l
+pub work-small : (n : ℕ) (l : Layout) → n ≤ 128 → work (row n l) ≡ n * work l
 unfolding work
 work-small n l h = let t : nat_le n most_elements ≡ true = grind (arith, nat_tests) in rw t refl
 
-work-large : (n : ℕ) (l : Layout) → 128 < n → work (row n l) ≡ work l
+pub work-large : (n : ℕ) (l : Layout) → 128 < n → work (row n l) ≡ work l
 unfolding work
 work-large n l h = let t : nat_le n most_elements ≡ false = grind (arith, nat_tests) in rw t refl
 
@@ -99,10 +99,17 @@ work-together n len w l xs h =
     ap (λ (k : ℕ). k * work l) (length-map xs (λ e. together len w n e)) ∙ ap (λ (k : ℕ). length xs * k) (sym (work-large n l h))
 
 -- ---- arrays within arrays
-pub rows-push : (ns : List ℕ) (n : ℕ) (l : Layout) → rows (ns ++ n ∷ []) l ≡ rows ns (row n l)
+rows-push : (ns : List ℕ) (n : ℕ) (l : Layout) → rows (ns ++ n ∷ []) l ≡ rows ns (row n l)
 unfolding rows
 rows-push [] n l = refl
 rows-push (m ∷ ns) n l = ap (λ (x : Layout). row m x) (rows-push ns n l)
+
+-- the last of the first dimensions
+pub rows-last : (dims : List ℕ) (k n : ℕ) (l : Layout) → 0 < k → k ≤ length dims → n ≡ get_or dims (k - 1) 0 → rows (take k dims) l ≡ rows (take (k - 1) dims) (row n l)
+rows-last dims k n l some inside is =
+    let next : (k - 1) + 1 ≡ k = omega arith in
+    ap (λ (i : ℕ). rows (take i dims) l) (sym next) ∙ ap (λ (ns : List ℕ). rows ns l) (take_more dims (k - 1) 0 (omega arith))
+    ∙ rows-push (take (k - 1) dims) (get_or dims (k - 1) 0) l ∙ ap (λ (m : ℕ). rows (take (k - 1) dims) (row m l)) (sym is)
 
 pub wound-push : (rs : List Row) (r : Row) (l : Layout) → wound (rs ++ r ∷ []) l ≡ row r.n (wound rs l)
 unfolding wound
@@ -131,38 +138,20 @@ wound-empty [] l h = h
 wound-empty (r ∷ rs) l h = wound-empty rs (row r.n l) (length-times r.n (nums l) ∙ ap (λ (k : ℕ). r.n * k) h ∙ (let f : r.n * 0 ≡ 0 = grind arith in f))
 
 -- ---- what shapes are
-pub base-known : (structs : List StructDef) (m : ℕ) (s : Shape) (b : Base) → m ≤ length structs → Some b ≡ base_of m s → (among structs m s ≡ base_layout structs b) × IsKnown structs b
-unfolding base_layout among layout_with
-base-known structs m (Scalar num) b h e =
-    let is : b ≡ base.Number num = cc in
-    subst (λ (x : Base). (leaf num ≡ base_layout structs x) × IsKnown structs x) (sym is) (refl, tt)
-base-known structs m (Array' n x dim) b h e = absurd cc
-base-known structs m (Struct k) b h e = elim (cases_lt k m) [
-  | inl less ↦
-      let t : nat_lt k m ≡ true = grind (arith, nat_tests, less) in
-      let is : Some b ≡ Some (base.Struct k) = e ∙ rw t refl in
-      let same : b ≡ base.Struct k = cc in
-      let d = here structs k (omega (arith, less, h)) in
-      let p : (among structs m (Struct k) ≡ among structs (suc k) (Struct k)) × (k < length structs)
-      = (among-struct structs m k d.0 h less d.1 ∙ sym (among-struct structs (suc k) k d.0 (omega (arith, less, h)) (omega arith) d.1), omega (arith, less, h)) in
-      subst (λ (x : Base). (among structs m (Struct k) ≡ base_layout structs x) × IsKnown structs x) (sym same) p
-  | inr past ↦
-      let t : nat_lt k m ≡ false = grind (arith, nat_tests, past) in
-      let is : Some b ≡ None = e ∙ rw t refl in
-      absurd cc
-]
+-- a structure among the first is the same among more
+pub among-own : (structs : List StructDef) (m k : ℕ) → m ≤ length structs → k < m → among structs m (no_array (Struct k)) ≡ base_layout structs (Struct k)
+unfolding base_layout
+among-own structs m k h less =
+    let d = here structs k (omega (arith, less, h)) in
+    among-struct structs m k d.0 h less d.1 ∙ sym (among-struct structs (suc k) k d.0 (omega (arith, less, h)) (omega arith) d.1)
 
-pub no-base : (structs : List StructDef) (m : ℕ) (s : Shape) (rs : List Row) → m ≤ length structs → IsPlain s → None ≡ base_of m s → length (nums (wound rs (among structs m s))) ≡ 0
+-- what has no elements has none in arrays
+pub none-within : (structs : List StructDef) (m : ℕ) (x : Plain) (rs : List Row) → IsNothing structs m x → length (nums (wound rs (among structs m (no_array x)))) ≡ 0
+none-within structs m x rs h = wound-empty rs (among structs m (no_array x)) h
+
+pub none-past : (structs : List StructDef) (m k : ℕ) → m ≤ length structs → m ≤ k → IsNothing structs m (Struct k)
 unfolding nums all_nums
-no-base structs m (Scalar num) rs h p e = absurd cc
-no-base structs m (Array' n x dim) rs h p e = absurd p
-no-base structs m (Struct k) rs h p e = elim (cases_lt k m) [
-  | inl less ↦
-      let t : nat_lt k m ≡ true = grind (arith, nat_tests, less) in
-      let is : None ≡ Some (base.Struct k) = e ∙ rw t refl in
-      absurd cc
-  | inr past ↦ wound-empty rs (among structs m (Struct k)) (ap (λ (l : Layout). length (nums l)) (among-none structs m k h past))
-]
+none-past structs m k h past = ap (λ (l : Layout). length (nums l)) (among-none structs m k h past)
 
 -- ---- lists of what is to be read
 module _ (structs : List StructDef) where
@@ -202,9 +191,6 @@ pub weaker-ok : {T E : Type 0} (P Q : T → Type 0) (r : Result T E) → ((x : T
 weaker-ok P Q (Ok x) h k = h x k
 weaker-ok P Q (Err e) h k = tt
 
-pub one-times : (n : ℕ) → 1 * n ≡ n
-one-times n = grind arith
-
 -- ---- initial values of elements
 pub values-more : (zs : List ℤ) (at : List ℕ) (i : ℕ) (more : Bool) → 0 < i → i ≤ length at →
     values_of zs (drop (i - 1) at) more ≡ join_some (Some (single (get_or zs (get_or at (i - 1) 0) (pos 0)))) (values_of zs (drop i at) more)
@@ -224,33 +210,34 @@ values-spread zs [] more = refl
 values-spread zs (o ∷ os) more = ap (λ (s : Option Span). join_some (Some (single (get_or zs o (pos 0)))) s) (values-spread zs os more)
 
 -- ---- one more to be read
-module _ (structs : List StructDef) (b : Base) (es all : List Elements) (e : Elements) (todo new : List Spot) (popped : all ≡ es ++ e ∷ []) (pushed : new ≡ todo ++ record { base = b; elements = e } ∷ []) where
-  pub spot-step : (zs : List ℤ) → flat_map (slots_in zs (base_layout structs b)) es ++ left structs zs new ≡ flat_map (slots_in zs (base_layout structs b)) all ++ left structs zs todo
+module _ (structs : List StructDef) (inner : Layout) (es all : List Elements) (e : Elements) (todo new : List Spot) (s : Spot) (is : IsSpotOf structs inner e s) (popped : all ≡ es ++ e ∷ []) (pushed : new ≡ todo ++ s ∷ []) where
+  pub spot-step : (zs : List ℤ) → flat_map (slots_in zs inner) es ++ left structs zs new ≡ flat_map (slots_in zs inner) all ++ left structs zs todo
   spot-step zs =
-      let f : Elements → List Slot = slots_in zs (base_layout structs b) in
+      let f : Elements → List Slot = slots_in zs inner in
       let rest = left structs zs todo in
       ap (λ (l : List Spot). flat_map f es ++ left structs zs l) pushed
-      ∙ ap (λ (l : List Slot). flat_map f es ++ l) (left-push structs zs todo (record { base = b; elements = e }))
+      ∙ ap (λ (l : List Slot). flat_map f es ++ l) (left-push structs zs todo s ∙ ap (λ (l : List Slot). l ++ rest) (is.slots zs))
       ∙ sym (append_assoc (flat_map f es) (f e) rest)
       ∙ ap (λ (l : List Slot). (flat_map f es ++ l) ++ rest) (sym (append-nil (f e)))
       ∙ ap (λ (l : List Slot). l ++ rest) (sym (flat_map-append f es (e ∷ [])))
       ∙ ap (λ (l : List Elements). flat_map f l ++ rest) (sym popped)
 
-  pub weight-step : length es * work (base_layout structs b) + weight structs new ≡ length all * work (base_layout structs b) + weight structs todo
+  pub weight-step : length es * work inner + weight structs new ≤ length all * work inner + weight structs todo
   weight-step =
-      let w = work (base_layout structs b) in
-      let a = ap (λ (l : List Spot). weight structs l) pushed ∙ weight-push structs todo (record { base = b; elements = e }) in
+      let w = work inner in
+      let a = ap (λ (l : List Spot). weight structs l) pushed ∙ weight-push structs todo s in
       let n = ap length popped ∙ length-append es (e ∷ []) in
       let m : length all * w ≡ length es * w + w = ap (λ (k : ℕ). k * w) n ∙ grind arith in
-      omega (arith, a, m)
+      let less = is.work in
+      omega (arith, a, m, less)
 
 -- ---- an object that has no elements
 pub nothing-read : (zs : List ℤ) (l : Layout) (e : Elements) (rest : List Slot) → capped (length (nums l)) ≡ 0 → rest ≡ slots_in zs l e ++ rest
 nothing-read zs l e rest h = ap (λ (xs : List Slot). xs ++ rest) (sym (no-slots zs l e (omega (arith, h))))
 
-pub number-is : (structs : List StructDef) (b : Base) (num : Num) → b ≡ base.Number num → base_layout structs b ≡ leaf num
+pub number-is : (structs : List StructDef) (b : Plain) (num : Num) → b ≡ Scalar num → base_layout structs b ≡ leaf num
 unfolding base_layout
-number-is structs b num h = ap (λ (x : Base). base_layout structs x) h
+number-is structs b num h = ap (λ (x : Plain). base_layout structs x) h
 
 pub number-work : (num : Num) → work (leaf num) ≡ 1
 unfolding work

@@ -8,10 +8,12 @@ use Rattle.std.proofs.lemmas.List.{take_all, drop_all}
 use Rattle.std.proofs.lemmas.Option.{slice_get_within, slice_get_past}
 use Rattle.std.proofs.Math.Nat.{mul-div_cancel_left}
 use Rattle.sa_interval.specs.Span.{Span}
-use Rattle.sa_typed.specs.Layouts.{Layout, Layouts, leaf, row, fields, no_field, field, nth_field, before_field, or_nothing, struct_layout, layout_with, layouts_with, layout_of, shape_layout}
+use Rattle.sa_typed.specs.Layouts.{Layout, Layouts, leaf, row, fields, no_field, field, nth_field, before_field, or_nothing, struct_layout, layout_with, layouts_with, rows, layout_of, shape_layout}
 use Rattle.sa_typed.specs.Cells.{Inner, inner_cells, field_cells, each_behind, all_behind, one, all, most_elements, cells, cells_of}
-use Rattle.sa_typed.specs.declared.shape.Shape.{Shape, Scalar, Struct, Array', end_of-Shape, more_of-Shape}
-use Rattle.sa_typed.specs.declared.shape.Shape as shape
+use Rattle.sa_base.specs.declared.num.Num.{Num}
+use Rattle.sa_typed.specs.declared.shape.Plain.{Plain}
+use Rattle.sa_typed.specs.declared.shape.Plain.TheVariants.{Scalar, Struct}
+use Rattle.sa_typed.specs.declared.shape.Shape.{Shape}
 use Rattle.sa_typed.specs.declared.shape.StructDef.{StructDef}
 use Rattle.sa_typed.specs.declared.shape.FieldDef.{FieldDef}
 use Rattle.sa_typed.specs.declared.program.Var.{Var}
@@ -22,7 +24,7 @@ use Rattle.sa_reference.specs.Values.{named}
 use Rattle.sa_env.specs.declared.place.Place.{Place}
 use Rattle.sa_env.specs.declared.ground.Extent.{Extent}
 use Rattle.sa_env.specs.declared.ground.Stretch.{Stretch}
-use Rattle.sa_env.specs.Sizes.{size, sizes, cells_before, among, first_cell, extent, extents_from, all_extents, made_of, stretch_of, stretch_at}
+use Rattle.sa_env.specs.Sizes.{size, sizes, cells_before, among, no_array, first_cell, extent, extents_from, all_extents, made_of, stretch_of, stretch_at}
 use Rattle.sa_env.specs.Places.{place_layout, IsPlace, IsNext, IsNowhere, IsStart, IsNoStart, AreInside}
 use Rattle.sa_env.specs.Reached.{picked, all_picked, all_runs, reached}
 use Rattle.sa_env.proofs.ReachLemmas.{chosen, chosen-reached, flat-none, length-behind}
@@ -94,8 +96,8 @@ made-of-fields (d ∷ older) k =
     elim (k == length older) as (λ b. (ls : Layouts) × ((if b then fields (layouts_with (λ j. struct_layout older j) d.fields) else struct_layout older k) ≡ fields ls))
     [ true ↦ (layouts_with (λ j. struct_layout older j) d.fields, refl) | false ↦ made-of-fields older k ]
 
-pub no-elements : (s : Span) (rs : List Reach) (structs : List StructDef) (m k : ℕ) (os : List ℕ) → reached (At s ∷ rs) (among structs m (Shape.Struct k)) os ≡ []
-unfolding reached among layout_with
+pub no-elements : (s : Span) (rs : List Reach) (structs : List StructDef) (m k : ℕ) (os : List ℕ) → reached (At s ∷ rs) (among structs m (no_array (Struct k))) os ≡ []
+unfolding reached among layout_with rows
 no-elements s rs structs m k os =
     let f = made-of-fields (reverse (take m structs)) k in
     rw f.1 refl
@@ -128,18 +130,31 @@ there-is [] i h e = omega arith
 there-is (x ∷ xs) zero h e = cc
 there-is (x ∷ xs) (suc i) h e = there-is xs i (omega arith) e
 
+pub here : {X : Type 0} (xs : List X) (i : ℕ) → i < length xs → (x : X) × (slice_get xs i ≡ Some x)
+here [] i h = absurd (omega arith)
+here (x ∷ xs) zero h = (x, refl)
+here (x ∷ xs) (suc i) h = here xs i (omega arith)
+
 pub not-both : {X : Type 0} (o : Option X) (x : X) → o ≡ Some x → o ≡ None → ⊥
 not-both o x e f = cc
 
 -- ---- steps between places
-layout-of : (p : Program) (n : Place) (m : ℕ) (s : Shape) → n.structs ≡ m → n.shape.now ≡ s → place_layout p n ≡ among p.structs m s
-layout-of p n m s e f = ap (λ (k : ℕ). among p.structs k n.shape.now) e ∙ ap (λ (t : Shape). among p.structs m t) f
+layout-of : (p : Program) (n : Place) (m : ℕ) (s : Shape) → n.structs ≡ m → n.dims.now ≡ s.dims → n.plain ≡ s.plain → place_layout p n ≡ among p.structs m s
+layout-of p n m s e f g =
+    ap (λ (k : ℕ). among p.structs k (record { dims = n.dims.now; plain = n.plain })) e
+    ∙ ap (λ (ds : List ℕ). among p.structs m (record { dims = ds; plain = n.plain })) f ∙ ap (λ (x : Plain). among p.structs m (record { dims = s.dims; plain = x })) g
 
-module _ (p : Program) (s : Span) (q n : Place) (e : Shape) (dim : ℕ) (place : IsPlace p q) (array : place_layout p q ≡ row dim (among p.structs q.structs e)) where
-  pub next-large : 128 < dim → n.shape.now ≡ e → n.structs ≡ q.structs → n.cells ≡ q.cells → n.firsts.items ≡ q.firsts.items → IsNext p (At s) q n
-  next-large h a b c d =
-      let is = layout-of p n q.structs e b a in
-      let big = size-large dim (among p.structs q.structs e) h in
+pub array-place : (p : Program) (q : Place) (n : ℕ) (rest : List ℕ) → q.dims.now ≡ n ∷ rest → place_layout p q ≡ row n (among p.structs q.structs (record { dims = rest; plain = q.plain }))
+unfolding among layout_with rows
+array-place p q n rest h = ap (λ (ds : List ℕ). among p.structs q.structs (record { dims = ds; plain = q.plain })) h
+
+pub plain-place : (p : Program) (q : Place) (x : Plain) → q.dims.now ≡ [] → q.plain ≡ x → place_layout p q ≡ among p.structs q.structs (no_array x)
+plain-place p q x h e = layout-of p q q.structs (no_array x) refl h e
+
+module _ (p : Program) (s : Span) (q n : Place) (e : Layout) (dim : ℕ) (place : IsPlace p q) (array : place_layout p q ≡ row dim e) where
+  pub next-large : 128 < dim → place_layout p n ≡ e → n.structs ≡ q.structs → n.cells ≡ q.cells → n.firsts.items ≡ q.firsts.items → IsNext p (At s) q n
+  next-large h is b c d =
+      let big = size-large dim e h in
       record {
         place = record {
           known = rw b place.known;
@@ -147,25 +162,24 @@ module _ (p : Program) (s : Span) (q n : Place) (e : Shape) (dim : ℕ) (place :
           small = rw c place.small;
           inside = rw (c, d) place.inside;
         };
-        same = λ rs. ap (λ (l : Layout). reached (At s ∷ rs) l q.firsts.items) array ∙ to-large s rs dim (among p.structs q.structs e) q.firsts.items h
+        same = λ rs. ap (λ (l : Layout). reached (At s ∷ rs) l q.firsts.items) array ∙ to-large s rs dim e q.firsts.items h
             ∙ ap (λ (l : Layout). reached rs l q.firsts.items) (sym is) ∙ ap (λ (os : List ℕ). reached rs (place_layout p n) os) (sym d);
       }
 
   pub next-none : dim ≡ 0 → IsNowhere p (At s) q
   next-none h = record {
-    none = λ rs. ap (λ (l : Layout). reached (At s ∷ rs) l q.firsts.items) array ∙ ap (λ (k : ℕ). reached (At s ∷ rs) (row k (among p.structs q.structs e)) q.firsts.items) h
-        ∙ to-none s rs (among p.structs q.structs e) q.firsts.items;
+    none = λ rs. ap (λ (l : Layout). reached (At s ∷ rs) l q.firsts.items) array ∙ ap (λ (k : ℕ). reached (At s ∷ rs) (row k e) q.firsts.items) h
+        ∙ to-none s rs e q.firsts.items;
   }
 
-  pub width-of : dim ≤ 128 → 0 < dim → q.cells / dim ≡ size (among p.structs q.structs e)
-  width-of h l = width-is dim (size (among p.structs q.structs e)) q.cells l (place.cells ∙ ap size array ∙ size-small dim (among p.structs q.structs e) h)
+  pub width-of : dim ≤ 128 → 0 < dim → q.cells / dim ≡ size e
+  width-of h l = width-is dim (size e) q.cells l (place.cells ∙ ap size array ∙ size-small dim e h)
 
   pub cells-of : dim ≤ 128 → 0 < dim → dim * (q.cells / dim) ≡ q.cells
-  cells-of h l = ap (λ (k : ℕ). dim * k) (width-of h l) ∙ sym (place.cells ∙ ap size array ∙ size-small dim (among p.structs q.structs e) h)
+  cells-of h l = ap (λ (k : ℕ). dim * k) (width-of h l) ∙ sym (place.cells ∙ ap size array ∙ size-small dim e h)
 
-  pub next-small : dim ≤ 128 → 0 < dim → n.shape.now ≡ e → n.structs ≡ q.structs → n.cells ≡ q.cells / dim → n.firsts.items ≡ all_picked s (q.cells / dim) dim q.firsts.items → IsNext p (At s) q n
-  next-small h l a b c d =
-      let is = layout-of p n q.structs e b a in
+  pub next-small : dim ≤ 128 → 0 < dim → place_layout p n ≡ e → n.structs ≡ q.structs → n.cells ≡ q.cells / dim → n.firsts.items ≡ all_picked s (q.cells / dim) dim q.firsts.items → IsNext p (At s) q n
+  next-small h l is b c d =
       let w = width-of h l in
       let whole = cells-of h l in
       let less = product-most (q.cells / dim) dim 1 l in
@@ -178,22 +192,22 @@ module _ (p : Program) (s : Span) (q n : Place) (e : Shape) (dim : ℕ) (place :
           small = omega (arith, c, whole, less, one', small);
           inside = rw (c, d) (all-inside s (q.cells / dim) dim q.firsts.items (rw whole place.inside));
         };
-        same = λ rs. ap (λ (l : Layout). reached (At s ∷ rs) l q.firsts.items) array ∙ to-small s rs dim (among p.structs q.structs e) q.firsts.items h
-            ∙ ap (λ (k : ℕ). reached rs (among p.structs q.structs e) (all_picked s k dim q.firsts.items)) (sym w)
+        same = λ rs. ap (λ (l : Layout). reached (At s ∷ rs) l q.firsts.items) array ∙ to-small s rs dim e q.firsts.items h
+            ∙ ap (λ (k : ℕ). reached rs e (all_picked s k dim q.firsts.items)) (sym w)
             ∙ ap (λ (l : Layout). reached rs l (all_picked s (q.cells / dim) dim q.firsts.items)) (sym is) ∙ ap (λ (os : List ℕ). reached rs (place_layout p n) os) (sym d);
       }
 
 -- a structure that isn't among the first has no fields
-pub next-unknown : (p : Program) (f k : ℕ) (q : Place) → IsPlace p q → q.shape.now ≡ Shape.Struct k → q.structs ≤ k → IsNowhere p (Into f) q
+pub next-unknown : (p : Program) (f k : ℕ) (q : Place) → IsPlace p q → place_layout p q ≡ among p.structs q.structs (no_array (Struct k)) → q.structs ≤ k → IsNowhere p (Into f) q
 unfolding nth_field
 next-unknown p f k q place shape h = record {
-  none = λ rs. ap (λ (l : Layout). reached (Into f ∷ rs) l q.firsts.items) (layout-of p q q.structs (Shape.Struct k) refl shape ∙ among-none p.structs q.structs k place.known h)
+  none = λ rs. ap (λ (l : Layout). reached (Into f ∷ rs) l q.firsts.items) (shape ∙ among-none p.structs q.structs k place.known h)
       ∙ to-no-field f rs no_field q.firsts.items refl;
 }
 
-module _ (p : Program) (f k : ℕ) (q : Place) (d : StructDef) (place : IsPlace p q) (shape : q.shape.now ≡ Shape.Struct k) (less : k < q.structs) (made : slice_get p.structs k ≡ Some d) where
+module _ (p : Program) (f k : ℕ) (q : Place) (d : StructDef) (place : IsPlace p q) (shape : place_layout p q ≡ among p.structs q.structs (no_array (Struct k))) (less : k < q.structs) (made : slice_get p.structs k ≡ Some d) where
   fields-of : place_layout p q ≡ fields (made_of p.structs k d)
-  fields-of = layout-of p q q.structs (Shape.Struct k) refl shape ∙ among-struct p.structs q.structs k d place.known less made
+  fields-of = shape ∙ among-struct p.structs q.structs k d place.known less made
 
   pub next-no-field : slice_get d.fields f ≡ None → IsNowhere p (Into f) q
   next-no-field h = record {
@@ -272,9 +286,9 @@ module _ (p : Program) (f k : ℕ) (q : Place) (d : StructDef) (place : IsPlace 
         pub field-inside : AreInside b.cells q.firsts.items
         field-inside = let o = field-order in let m = field-room in less-inside b.cells q.cells q.firsts.items (omega (arith, o, m)) place.inside
 
-        pub next-field : (n : Place) → n.shape.now ≡ x.shape → n.structs ≡ k → n.cells ≡ c.cells - b.cells → n.firsts.items ≡ map (λ o. o + b.cells) q.firsts.items → IsNext p (Into f) q n
-        next-field n u v w z =
-            let is = layout-of p n k x.shape v u in
+        pub next-field : (n : Place) → n.dims.now ≡ x.shape.dims → n.plain ≡ x.shape.plain → n.structs ≡ k → n.cells ≡ c.cells - b.cells → n.firsts.items ≡ map (λ o. o + b.cells) q.firsts.items → IsNext p (Into f) q n
+        next-field n u y v w z =
+            let is = layout-of p n k x.shape v u y in
             let s = before-is es b r first in
             let t = behind-is es c r last in
             let i = next-is in
@@ -307,11 +321,11 @@ pub stretch-known : (p : Program) (v : ℕ) (x : Var) (o : Option Stretch) → s
 stretch-known p v x o h e = e ∙ ap (λ (y : Option Var). option_map (stretch_of p v) y) h
 
 pub start : (p : Program) (v : ℕ) (x : Var) (st : Stretch) (n : Place) → length (cells p) ≤ 65536 → slice_get p.vars v ≡ Some x → Some st ≡ stretch_at p v →
-    n.shape.now ≡ x.shape → n.structs ≡ length p.structs → n.cells ≡ st.cells → n.firsts.items ≡ st.first ∷ [] → IsStart p v n
-start p v x st n few h e a b c d =
+    n.dims.now ≡ x.shape.dims → n.plain ≡ x.shape.plain → n.structs ≡ length p.structs → n.cells ≡ st.cells → n.firsts.items ≡ st.first ∷ [] → IsStart p v n
+start p v x st n few h e a y b c d =
     let k : st ≡ stretch_of p v x = let s = stretch-known p v x (Some st) h e in cc in
     let s = split p v x h in
-    let is : place_layout p n ≡ layout_of p v = layout-of p n (length p.structs) x.shape b a ∙ sym (layout-known p v x h) in
+    let is : place_layout p n ≡ layout_of p v = layout-of p n (length p.structs) x.shape b a y ∙ sym (layout-known p v x h) in
     let first : st.first ≡ first_cell p v x.home = ap (λ (t : Stretch). t.first) k in
     let many : st.cells ≡ size (layout_of p v) = ap (λ (t : Stretch). t.cells) k in
     let room = stretch-inside p v (first_cell p v x.home) s few in
@@ -326,28 +340,28 @@ start p v x st n few h e a b c d =
           ∙ ap (λ (k : ℕ). reached rs (place_layout p n) (k ∷ [])) (sym first) ∙ ap (λ (os : List ℕ). reached rs (place_layout p n) os) (sym d);
     }
 
--- ---- shapes by their variants
-pub array-layout : (structs : List StructDef) (m n : ℕ) (e : Shape) → among structs m (shape.Array e n) ≡ row n (among structs m e)
-unfolding among layout_with Rattle.sa_typed.specs.declared.shape.Shape.TheBlock.hidden-the_row-Shape-0 denote.Hole.Carrier.hidden
-array-layout structs m n e = refl
-
-pub nowhere-at : (p : Program) (s : Span) (q : Place) → ((e : Shape) (n : ℕ) → q.shape.now ≡ shape.Array e n → ⊥) → IsNowhere p (At s) q
-unfolding reached among layout_with Rattle.sa_typed.specs.declared.shape.Shape.TheBlock.hidden-the_row-Shape-0 denote.Hole.Carrier.hidden
-nowhere-at p s q h = record { none = λ rs. cases rs q.shape.now refl }
+-- ---- what has no such step
+pub nowhere-at : (p : Program) (s : Span) (q : Place) → q.dims.now ≡ [] → IsNowhere p (At s) q
+unfolding reached among layout_with rows
+nowhere-at p s q h = record { none = λ rs. ap (λ (l : Layout). reached (At s ∷ rs) l q.firsts.items) (plain-place p q q.plain h refl) ∙ cases rs q.plain }
   where
-    cases : (rs : List Reach) (t : Shape) → q.shape.now ≡ t → reached (At s ∷ rs) (among p.structs q.structs t) q.firsts.items ≡ []
-    cases rs (Scalar num) e = refl
-    cases rs (Struct k) e = no-elements s rs p.structs q.structs k q.firsts.items
-    cases rs (Array' n (more_of-Shape t end_of-Shape) dim) e = absurd (h t dim e)
+    cases : (rs : List Reach) (x : Plain) → reached (At s ∷ rs) (among p.structs q.structs (no_array x)) q.firsts.items ≡ []
+    cases rs (Scalar num) = refl
+    cases rs (Struct k) = no-elements s rs p.structs q.structs k q.firsts.items
 
-pub nowhere-into : (p : Program) (f : ℕ) (q : Place) → ((k : ℕ) → q.shape.now ≡ shape.Struct k → ⊥) → IsNowhere p (Into f) q
-unfolding reached among layout_with
-nowhere-into p f q h = record { none = λ rs. cases rs q.shape.now refl }
+-- an array has no fields
+pub nowhere-below : (p : Program) (f : ℕ) (q : Place) → 0 < length q.dims.now → IsNowhere p (Into f) q
+unfolding reached
+nowhere-below p f q h = record { none = λ rs. cases rs q.dims.now refl }
   where
-    cases : (rs : List Reach) (t : Shape) → q.shape.now ≡ t → reached (Into f ∷ rs) (among p.structs q.structs t) q.firsts.items ≡ []
-    cases rs (Scalar num) e = refl
-    cases rs (Struct k) e = absurd (h k e)
-    cases rs (Array' n (more_of-Shape t end_of-Shape) dim) e = refl
+    cases : (rs : List Reach) (ds : List ℕ) → q.dims.now ≡ ds → reached (Into f ∷ rs) (place_layout p q) q.firsts.items ≡ []
+    cases rs [] e = absurd (let z = ap length e in omega (arith, z, h))
+    cases rs (n ∷ ds) e = ap (λ (l : Layout). reached (Into f ∷ rs) l q.firsts.items) (array-place p q n ds e)
+
+-- nor has a number
+pub nowhere-into : (p : Program) (f : ℕ) (q : Place) (num : Num) → q.dims.now ≡ [] → q.plain ≡ Scalar num → IsNowhere p (Into f) q
+unfolding reached among layout_with rows
+nowhere-into p f q num h e = record { none = λ rs. ap (λ (l : Layout). reached (Into f ∷ rs) l q.firsts.items) (plain-place p q (Scalar num) h e) }
 
 -- what is left at the end of the steps
 pub at-last : (p : Program) (q : Place) (rs : List Reach) (i : ℕ) → IsPlace p q → length rs ≤ i → reached (drop i rs) (place_layout p q) q.firsts.items ≡ all_runs q.cells q.firsts.items

@@ -4,13 +4,14 @@ use Rattle.std.specs.Prelude.{◌==◌, if◌then◌else◌, Option, Some, None,
 use Rattle.std.proofs.lemmas.Bool.Decides.{nat_tests}
 use Rattle.std.proofs.lemmas.List.{take_more, take_all, reverse-append, length-reverse, length-take-le}
 use Rattle.std.proofs.lemmas.Option.{slice_get_within, get_or_from_slice_get}
-use Rattle.sa_typed.specs.Layouts.{Layout, Layouts, leaf, row, fields, no_field, field, nums, nth_field, before_field, layout_with, layouts_with, struct_layout}
+use Rattle.sa_typed.specs.Layouts.{Layout, Layouts, leaf, row, fields, no_field, field, nums, nth_field, before_field, layout_with, layouts_with, struct_layout, rows}
 use Rattle.sa_typed.specs.Cells.{inner_cells, field_cells, all_behind, of}
 use Rattle.sa_typed.specs.declared.shape.FieldDef.{FieldDef}
 use Rattle.sa_typed.specs.declared.shape.StructDef.{StructDef}
+use Rattle.sa_typed.specs.declared.shape.Plain.TheVariants.{Struct}
 use Rattle.sa_typed.specs.declared.shape.Shape.{Shape}
 use Rattle.sa_env.specs.declared.ground.Extent.{Extent}
-use Rattle.sa_env.specs.Sizes.{size, sizes, cells_before, extent, extents_from, all_extents, among, made_of}
+use Rattle.sa_env.specs.Sizes.{size, sizes, cells_before, extent, extents_from, all_extents, among, no_array, made_of}
 use Rattle.sa_env.proofs.ReachLemmas.{length-behind}
 
 -- the newest of the first structures stands first
@@ -145,12 +146,12 @@ extents-of structs k d e =
 
 -- ---- shapes among the first structures
 pub among-struct : (structs : List StructDef) (m k : ℕ) (d : StructDef) → m ≤ length structs → k < m → slice_get structs k ≡ Some d →
-    among structs m (Shape.Struct k) ≡ fields (made_of structs k d)
-unfolding among layout_with
+    among structs m (no_array (Struct k)) ≡ fields (made_of structs k d)
+unfolding among layout_with rows
 among-struct structs m k d h l e = struct-at structs m k d h l e
 
-pub among-none : (structs : List StructDef) (m k : ℕ) → m ≤ length structs → m ≤ k → among structs m (Shape.Struct k) ≡ fields no_field
-unfolding among layout_with
+pub among-none : (structs : List StructDef) (m k : ℕ) → m ≤ length structs → m ≤ k → among structs m (no_array (Struct k)) ≡ fields no_field
+unfolding among layout_with rows
 among-none structs m k h l = let long = older-length structs m h in struct-past (reverse (take m structs)) k (omega (arith, long))
 
 pub among-field : (structs : List StructDef) (k f : ℕ) (d : StructDef) (x : FieldDef) → slice_get d.fields f ≡ Some x →

@@ -5,6 +5,7 @@ use Rattle.sa_typed.specs.declared.program.Program.{Program}
 use Rattle.sa_reference.specs.Environments.{ranges}
 use Rattle.sa_env.specs.declared.ground.Ground.{Ground}
 use Rattle.sa_env.specs.Sizes.{all_extents, stretch_at}
+use Rattle.sa_env.specs.Spots.{AreCores}
 
 unfoldable pub stars : List Cell → List Bool
 stars [] = []
@@ -16,3 +17,4 @@ pub record IsGround (p : Program) (g : Ground) : Type 0 where
   pub starred : g.starred ≡ stars (cells p)
   pub vars : (v : ℕ) → slice_get g.vars v ≡ stretch_at p v
   pub structs : g.structs ≡ all_extents (reverse p.structs)
+  pub cores : AreCores p.structs g.cores

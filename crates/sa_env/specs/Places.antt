@@ -11,7 +11,7 @@ use Rattle.sa_env.specs.Sizes.{size, among}
 use Rattle.sa_env.specs.Reached.{reached}
 
 abbrev pub place_layout : Program → Place → Layout
-place_layout p q = among p.structs q.structs q.shape.now
+place_layout p q = among p.structs q.structs (record { dims = q.dims.now; plain = q.plain })
 
 -- so many cells from each of these numbers on are cells
 abbrev pub AreInside : ℕ → List ℕ → Type 0

@@ -3,6 +3,7 @@
 use Rattle.std.specs.Prelude.{ℕ, zero, suc, ◌+◌, ◌-◌, ◌^◌, ◌≡◌, ◌<◌, ◌≤◌, List, [], ◌∷◌, ◌++◌, length, take, reverse, min, slice_get, Option, Some, option_map, if◌then◌else◌, nat_le}
 use Rattle.sa_typed.specs.Layouts.{Layout, Layouts, no_field, field, nums, layout_with, layouts_with, struct_layout, layout_of}
 use Rattle.sa_typed.specs.Cells.{most_elements, inner_cells, cells_at, is_global, is_static, is_local}
+use Rattle.sa_typed.specs.declared.shape.Plain.{Plain}
 use Rattle.sa_typed.specs.declared.shape.Shape.{Shape}
 use Rattle.sa_typed.specs.declared.shape.FieldDef.{FieldDef}
 use Rattle.sa_typed.specs.declared.shape.StructDef.{StructDef}
@@ -51,6 +52,10 @@ unfoldable pub all_extents : List StructDef → List (List Extent)
 all_extents [] = []
 all_extents (d ∷ older) = all_extents older ++ extents_from 0 0 (layouts_with (λ k. struct_layout older k) d.fields) ∷ []
 
+-- a type that is no array, as a shape
+abbrev pub no_array : Plain → Shape
+no_array x = record { dims = []; plain = x }
+
 -- a shape among the first structures alone
 unfoldable pub among : List StructDef → ℕ → Shape → Layout
 among structs m s = layout_with (λ k. struct_layout (reverse (take m structs)) k) s
@@ -67,12 +72,6 @@ made_of structs k d = fields_of structs k d.fields
 pub record Covers (structs : List StructDef) (m : ℕ) (table : List (List Extent)) : Type 0 where
   pub known : m ≤ length structs
   pub each : (k : ℕ) (d : StructDef) → k < m → slice_get structs k ≡ Some d → slice_get table k ≡ Some (extents_from 0 0 (made_of structs k d))
-
--- a shape that is no array
-abbrev pub IsPlain : Shape → Type 0
-IsPlain (Shape.Scalar num) = Unit {0}
-IsPlain (Shape.Struct k) = Unit {0}
-IsPlain (Shape.Array' n row dim) = ⊥
 
 -- ---- variables
 -- how many cells stand before those of the variable with this number, which lives there

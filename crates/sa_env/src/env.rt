@@ -367,6 +367,7 @@ fn set_values(
         alloc,
         program,
         table,
+        ground.cores.as_slice(),
         &known.shape,
         known.initial.as_slice(),
     )?;

@@ -6,12 +6,12 @@ ghost use Rattle.sa_typed.specs.Layouts.{shape_layout};
 ghost use Rattle.sa_operators.specs.Operators.{range_of};
 ghost use Rattle.sa_env.specs.Grounds.{IsGround};
 ghost use Rattle.sa_env.specs.Sizes.{size, capped, extent, extents_from, all_extents, among, fields_of, Covers};
-ghost use Rattle.sa_env.specs.Spots.{all_slots};
+ghost use Rattle.sa_env.specs.Spots.{all_slots, AreCores};
 ghost use Rattle.sa_env.specs.Stretches.{stretches, next_at, next_for, moved_next, sort_test, bare_slots};
 
 use crate::OutOfMemory;
 use crate::sizes::shape_extent;
-use crate::slots::{Slot, slots};
+use crate::slots::{Core, Slot, cores, slots};
 use sa_base::Num;
 use sa_interval::Interval;
 use sa_typed::{FieldDef, Home, Program, Var};
@@ -33,13 +33,15 @@ pub struct Stretch {
 }
 
 /// Of each cell its type's range and whether it stands for several elements. Of each variable where its cells stand. Of each
-/// structure what stands before each field, and last what stands in all of them.
+/// structure what stands before each field, and last what stands in all of them; and a simpler type with the same cells, if
+/// there is one.
 #[derive(Debug, Drop)]
 pub struct Ground {
     pub tops: Items<Interval>,
     pub starred: Items<bool>,
     pub vars: Items<Stretch>,
     pub structs: Items<Items<Extent>>,
+    pub cores: Items<Option<Core>>,
 }
 
 impl Ground {
@@ -50,12 +52,14 @@ impl Ground {
     {
         let structs = struct_table(alloc, program)?;
         let vars = stretches(alloc, program, structs.as_slice())?;
-        let slots = bare_slots(alloc, program, structs.as_slice())?;
+        let cores = cores(alloc, program)?;
+        let slots = bare_slots(alloc, program, structs.as_slice(), cores.as_slice())?;
         Ok(Ground {
             tops: tops(alloc, &slots)?,
             starred: stars(alloc, &slots)?,
             vars,
             structs,
+            cores,
         })
     }
 }
@@ -237,14 +241,16 @@ fn bare_slots(
     alloc: Global,
     program: &Program,
     table: &[Items<Extent>],
+    cores: &[Option<Core>],
 ) -> Result<Vec<Slot>, OutOfMemory>
-    requires { Covers program.now.structs (length program.now.structs) table.now }
+    requires table { Covers program.now.structs (length program.now.structs) table.now }
+    requires cores { AreCores program.now.structs cores.now }
     ensures { IfOk result (λ r. r.items ≡ bare_slots (cells program.now)) }
 {
     let mut all = Vec::new(alloc);
-    push_sort(alloc, program, table, Sort::Global, &mut all)?;
-    push_sort(alloc, program, table, Sort::Static, &mut all)?;
-    push_sort(alloc, program, table, Sort::Local, &mut all)?;
+    push_sort(alloc, program, table, cores, Sort::Global, &mut all)?;
+    push_sort(alloc, program, table, cores, Sort::Static, &mut all)?;
+    push_sort(alloc, program, table, cores, Sort::Local, &mut all)?;
     Ok(all)
 }
 
@@ -253,14 +259,16 @@ fn push_sort(
     alloc: Global,
     program: &Program,
     table: &[Items<Extent>],
+    cores: &[Option<Core>],
     sort: Sort,
     all: &mut Vec<Slot>,
 ) -> Result<(), OutOfMemory>
-    requires { Covers program.now.structs (length program.now.structs) table.now }
+    requires table { Covers program.now.structs (length program.now.structs) table.now }
+    requires cores { AreCores program.now.structs cores.now }
     ensures { OnOk result (all.new.items ≡ all.old.items ++ bare_slots (cells_at program.now (sort_test sort) 0 program.now.vars)) }
 {
     for var in program.vars.as_slice() {
-        push_var(alloc, program, table, sort, var, all)?;
+        push_var(alloc, program, table, cores, sort, var, all)?;
     }
     Ok(())
 }
@@ -270,15 +278,17 @@ fn push_var(
     alloc: Global,
     program: &Program,
     table: &[Items<Extent>],
+    cores: &[Option<Core>],
     sort: Sort,
     var: &Var,
     all: &mut Vec<Slot>,
 ) -> Result<(), OutOfMemory>
-    requires { Covers program.now.structs (length program.now.structs) table.now }
+    requires table { Covers program.now.structs (length program.now.structs) table.now }
+    requires cores { AreCores program.now.structs cores.now }
     ensures { OnOk result (all.new.items ≡ all.old.items ++ (if sort_test sort var.now.home then all_slots [] (shape_layout program.now.structs var.now.shape) else [])) }
 {
     if is_of(sort, var.home) {
-        let more = slots(alloc, program, table, &var.shape, &[])?;
+        let more = slots(alloc, program, table, cores, &var.shape, &[])?;
         all.extend_from_slice(&more)?;
     }
     Ok(())

@@ -1,29 +1,29 @@
 //! The cells that an access names.
 
-ghost use Rattle.std.specs.Prelude.{◌≡◌, ◌+◌, ◌-◌, ◌*◌, ◌≤◌, ◌<◌, ℤ, pos, ◌++◌, List, [], map, if◌then◌else◌, IfOk, OnOk, MatchOption, nat_le, slice_get, length};
+ghost use Rattle.std.specs.Prelude.{◌≡◌, ◌+◌, ◌-◌, ◌*◌, ◌≤◌, ◌<◌, ℤ, pos, ◌++◌, List, [], map, if◌then◌else◌, IfOk, OnOk, MatchOption, nat_le, slice_get, ◌∷◌, length};
 ghost use Rattle.std.specs.Int.RustNames.{int_le};
 ghost use Rattle.std.specs.List.{All};
 ghost use Rattle.sa_reference.specs.declared.reach.Reach.{Reach};
 ghost use Rattle.sa_reference.specs.declared.reach.Reach.TheVariants.{At, Into};
 ghost use Rattle.sa_reference.specs.Values.{named};
-ghost use Rattle.sa_typed.specs.Layouts.{row};
-ghost use Rattle.sa_typed.specs.declared.shape.Shape.TheVariants.{Struct};
+ghost use Rattle.sa_typed.specs.declared.shape.Plain.TheVariants.{Struct};
 ghost use Rattle.sa_env.specs.Grounds.{IsGround};
-ghost use Rattle.sa_env.specs.Sizes.{among};
+ghost use Rattle.sa_env.specs.Sizes.{among, no_array};
 ghost use Rattle.sa_env.specs.Reached.{reached, spaced, all_picked, all_runs};
 ghost use Rattle.sa_env.specs.Places.{place_layout, IsPlace, Leads, Begins, AreInside, IsCountBelow, IsCountUpTo};
 
 use crate::{Ground, OutOfMemory};
 use sa_interval::Interval;
 use sa_reference::Reach;
-use sa_typed::{Program, Shape};
+use sa_typed::{Plain, Program};
 use std::alloc::Global;
 
-/// What steps have led to: its shape, which may hold the first `structs` structures, how many cells it has, and the numbers
-/// of the first cell of each place that it stands at.
+/// What steps have led to: the dimensions that are left of its shape, what they are around, which may hold the first `structs`
+/// structures, how many cells it has, and the numbers of the first cell of each place that it stands at.
 #[derive(Drop)]
 struct Place<'a> {
-    shape: &'a Shape,
+    dims: &'a [u32],
+    plain: Plain,
     structs: usize,
     cells: usize,
     firsts: Vec<usize>,
@@ -72,7 +72,8 @@ fn variable<'a>(
     let mut firsts = Vec::new(alloc);
     firsts.push(stretch.first)?;
     Ok(Some(Place {
-        shape: &known.shape,
+        dims: known.shape.dims.as_slice(),
+        plain: known.shape.plain,
         structs: program.structs.len(),
         cells: stretch.cells,
         firsts,
@@ -92,14 +93,19 @@ fn stepped<'a>(
     ensures { IfOk result (Leads program.now reach place.entry) }
 {
     match reach {
-        Reach::At(span) => match place.shape {
-            Shape::Array(element, n) => { elements(alloc, program, span, element.get(), *n, place) }
-            _ => Ok(None),
+        Reach::At(span) => match place.dims {
+            [] => Ok(None),
+            [n, rest @ ..] => elements(alloc, program, span, *n, rest, place),
         },
-        Reach::Into(f) => match place.shape {
-            Shape::Struct(k) => field(alloc, program, ground, *k, f, place),
-            _ => Ok(None),
-        },
+        Reach::Into(f) => {
+            if !place.dims.is_empty() {
+                return Ok(None);
+            }
+            match place.plain {
+                Plain::Scalar(_) => Ok(None),
+                Plain::Struct(k) => field(alloc, program, ground, k, f, place),
+            }
+        }
     }
 }
 
@@ -108,15 +114,16 @@ fn elements<'a>(
     alloc: Global,
     program: &Program,
     span: Interval,
-    element: &'a Shape,
     n: u32,
+    rest: &'a [u32],
     place: Place<'a>,
 ) -> Result<Option<Place<'a>>, OutOfMemory>
     requires place { IsPlace program.now place }
-    requires array { place_layout program.now place ≡ row n (among program.now.structs place.structs element.now) }
+    requires array { place.dims.now ≡ n ∷ rest.now }
     ensures { IfOk result (Leads program.now (At span) place.entry) }
 {
     let Place {
+        plain,
         structs,
         cells,
         firsts,
@@ -124,7 +131,8 @@ fn elements<'a>(
     } = place;
     if n > 128 {
         return Ok(Some(Place {
-            shape: element,
+            dims: rest,
+            plain,
             structs,
             cells,
             firsts,
@@ -135,7 +143,8 @@ fn elements<'a>(
     }
     let width = cells / n as usize;
     Ok(Some(Place {
-        shape: element,
+        dims: rest,
+        plain,
         structs,
         cells: width,
         firsts: picked(alloc, &firsts, span, n as usize, width)?,
@@ -153,7 +162,7 @@ fn field<'a>(
 ) -> Result<Option<Place<'a>>, OutOfMemory>
     requires ground { IsGround program.now ground.now }
     requires place { IsPlace program.now place }
-    requires shape { place.shape.now ≡ Struct k }
+    requires shape { place_layout program.now place ≡ among program.now.structs place.structs (no_array (Struct k)) }
     ensures { IfOk result (Leads program.now (Into f) place.entry) }
 {
     let Place {
@@ -180,7 +189,8 @@ fn field<'a>(
         return Ok(None);
     };
     Ok(Some(Place {
-        shape: &field.shape,
+        dims: field.shape.dims.as_slice(),
+        plain: field.shape.plain,
         structs: k as usize,
         cells: behind.cells - before.cells,
         firsts: moved(alloc, &firsts, before.cells)?,

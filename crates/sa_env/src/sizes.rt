@@ -1,11 +1,11 @@
 //! How many cells and elements shapes have.
 
 ghost use Rattle.std.specs.Prelude.{ℕ, ◌≡◌, ◌*◌, ◌<◌, length};
-ghost use Rattle.sa_typed.specs.declared.shape.Shape.TheVariants.{Struct};
-ghost use Rattle.sa_env.specs.Sizes.{cells_for, extent, extent_of, among, Covers, IsPlain};
+ghost use Rattle.sa_typed.specs.declared.shape.Plain.TheVariants.{Struct};
+ghost use Rattle.sa_env.specs.Sizes.{cells_for, extent, extent_of, among, no_array, Covers};
 
 use crate::ground::Extent;
-use sa_typed::{Program, Shape};
+use sa_typed::{Plain, Program, Shape};
 use sqlite_items::{Items, at};
 
 /// How many cells and elements a shape has, which may hold the first `structs` structures.
@@ -22,12 +22,11 @@ pub(crate) fn shape_extent(
         cells: 1,
         elements: 1,
     };
-    let mut inner = shape;
-    while let Shape::Array(element, n) = inner {
+    let dims = shape.dims.as_slice();
+    for n in dims {
         each = several(each, *n);
-        inner = element.get();
     }
-    let one = plain_extent(program, table, structs, inner);
+    let one = plain_extent(program, table, structs, shape.plain);
     Extent {
         cells: each.cells.saturating_mul(one.cells),
         elements: each.elements.saturating_mul(one.elements),
@@ -57,29 +56,24 @@ pub(crate) fn plain_extent(
     program: &Program,
     table: &[Items<Extent>],
     structs: usize,
-    shape: &Shape,
+    plain: Plain,
 ) -> Extent
-    requires table { Covers program.now.structs structs table.now }
-    requires plain { IsPlain shape.now }
-    ensures { result ≡ extent_of (among program.now.structs structs shape.now) }
+    requires { Covers program.now.structs structs table.now }
+    ensures { result ≡ extent_of (among program.now.structs structs (no_array plain)) }
 {
-    match shape {
-        Shape::Scalar(_) => Extent {
+    match plain {
+        Plain::Scalar(_) => Extent {
             cells: 1,
             elements: 1,
         },
-        Shape::Struct(k) => struct_extent(program, table, structs, *k),
-        Shape::Array(..) => Extent {
-            cells: 0,
-            elements: 0,
-        },
+        Plain::Struct(k) => struct_extent(program, table, structs, k),
     }
 }
 
 /// How many cells and elements a structure has, if it is one of the first.
 fn struct_extent(program: &Program, table: &[Items<Extent>], structs: usize, k: u32) -> Extent
     requires { Covers program.now.structs structs table.now }
-    ensures { result ≡ extent_of (among program.now.structs structs (Struct k)) }
+    ensures { result ≡ extent_of (among program.now.structs structs (no_array (Struct k))) }
 {
     let none = Extent {
         cells: 0,

@@ -1,20 +1,22 @@
 //! The cells of a variable, in their order: their types, and what they begin with.
 
-ghost use Rattle.std.specs.Prelude.{ℕ, List, ◌≡◌, ◌+◌, ◌*◌, ◌≤◌, ◌<◌, ℤ, pos, Some, None, [], ◌∷◌, ◌++◌, length, map, get_or, option_map, nat_lt, if◌then◌else◌, IfOk, OnOk, MatchOption};
-ghost use Rattle.std.specs.List.{flat_map};
+ghost use Rattle.std.specs.Prelude.{ℕ, List, ◌≡◌, ◌+◌, ◌*◌, ◌≤◌, ◌<◌, ℤ, pos, Some, None, [], ◌∷◌, ◌++◌, length, map, get_or, option_map, nat_lt, if◌then◌else◌, IfOk, OnOk, MatchOption, slice_get};
+ghost use Rattle.std.specs.List.{flat_map, list_all, list_any};
 ghost use Rattle.sa_interval.specs.Rows.{single, join_some};
 ghost use Rattle.sa_typed.specs.Layouts.{Layout, nums, shape_layout};
 ghost use Rattle.sa_typed.specs.Layouts as layouts;
-ghost use Rattle.sa_env.specs.declared.slots.Base.TheVariants.{Struct};
-ghost use Rattle.sa_env.specs.Sizes.{among, capped, made_of, Covers, IsPlain};
+ghost use Rattle.sa_env.specs.declared.slots.Core.{Core};
+ghost use Rattle.sa_typed.specs.declared.shape.Plain.TheVariants.{Struct};
+ghost use Rattle.sa_typed.specs.declared.shape.StructDef.{StructDef};
+ghost use Rattle.sa_env.specs.Sizes.{among, no_array, capped, made_of, Covers};
 ghost use Rattle.sa_env.specs.Slots.{values_of, or_zero, slot, slots_in, kept, any_past, moved_on, run, stops, any_stops, together, apart};
-ghost use Rattle.sa_env.specs.Spots.{all_slots, base_layout, IsKnown, AreKnown, spot_slots, left, work, weight, rows, wound, HasWidths, AreArrays, base_of, ends_span, first_element};
+ghost use Rattle.sa_env.specs.Spots.{all_slots, base_layout, IsKnown, AreKnown, spot_slots, left, work, weight, wound, HasWidths, AreArrays, StandFor, AreCores, IsCore, IsBase, IsSpotOf, IsNothing, is_single, ends_span, first_element};
 
 use crate::OutOfMemory;
 use crate::ground::Extent;
 use crate::sizes::plain_extent;
 use sa_base::Num;
-use sa_typed::{Program, Shape};
+use sa_typed::{FieldDef, Plain, Program, Shape};
 use sqlite_items::Items;
 use std::alloc::Global;
 
@@ -37,18 +39,18 @@ struct Elements {
     more: bool,
 }
 
-/// A number or a structure.
-#[derive(Clone, Copy, Debug)]
-enum Base {
-    Number(Num),
-    Struct(u32),
-}
-
-/// An object that stands at some elements, which is still to be read for its cells.
+/// An object that is no array and stands at some elements, which is still to be read for its cells.
 #[derive(Debug, Drop)]
 struct Spot {
-    base: Base,
+    base: Plain,
     elements: Elements,
+}
+
+/// A type that is no array and stands for another, whose cells it has: starred if this says so.
+#[derive(Clone, Copy, Debug)]
+pub struct Core {
+    plain: Plain,
+    starred: bool,
 }
 
 /// An array: how many there are, and how many elements each of them has.
@@ -206,56 +208,35 @@ fn within(
     }
 }
 
-/// The arrays around something, what is within them, and how many elements there are in all.
+/// The arrays around something, the innermost first, and how many elements there are in all.
 #[derive(Drop)]
-struct Arrays<'a> {
+struct Arrays {
     rows: Vec<Row>,
-    inner: &'a Shape,
     elements: usize,
 }
 
-/// The numbers of elements of the arrays around something, the outermost first, and what is within them.
-fn unwound<'a>(
-    alloc: Global,
-    program: &Program,
-    structs: usize,
-    shape: &'a Shape,
-) -> Result<(Vec<u32>, &'a Shape), OutOfMemory>
-    ensures shape { IfOk result (λ r. among program.now.structs structs shape.now ≡ rows r.0.items (among program.now.structs structs r.1.now)) }
-    ensures plain { IfOk result (λ r. IsPlain r.1.now) }
-{
-    let mut dims = Vec::new(alloc);
-    let mut inner = shape;
-    while let Shape::Array(element, n) = inner {
-        dims.push(*n)?;
-        inner = element.get();
-    }
-    Ok((dims, inner))
-}
-
 /// The arrays of a shape, which may hold the first `structs` structures.
-fn around<'a>(
+fn around(
     alloc: Global,
     program: &Program,
     table: &[Items<Extent>],
     structs: usize,
-    shape: &'a Shape,
-) -> Result<Arrays<'a>, OutOfMemory>
+    shape: &Shape,
+) -> Result<Arrays, OutOfMemory>
     requires { Covers program.now.structs structs table.now }
     ensures { IfOk result (AreArrays program.now.structs structs shape.now) }
 {
-    let (mut dims, inner) = unwound(alloc, program, structs, shape)?;
+    let dims = shape.dims.as_slice();
     let mut rows = Vec::with_capacity(alloc, dims.len())?;
-    let mut elements = plain_extent(program, table, structs, inner).elements;
-    while let Some(n) = dims.pop() {
+    let mut elements = plain_extent(program, table, structs, shape.plain).elements;
+    let mut k = dims.len();
+    while k > 0 {
+        k -= 1;
+        let n = dims[k];
         rows.push(Row { n, width: elements })?;
         elements = elements.saturating_mul(n as usize);
     }
-    Ok(Arrays {
-        rows,
-        inner,
-        elements,
-    })
+    Ok(Arrays { rows, elements })
 }
 
 /// What is within the arrays that stand at these elements.
@@ -283,6 +264,7 @@ fn push_spots(
     alloc: Global,
     program: &Program,
     table: &[Items<Extent>],
+    cores: &[Option<Core>],
     structs: usize,
     shape: &Shape,
     elements: Elements,
@@ -290,6 +272,7 @@ fn push_spots(
     todo: &mut Vec<Spot>,
 ) -> Result<(), OutOfMemory>
     requires table { Covers program.now.structs structs table.now }
+    requires cores { AreCores program.now.structs cores.now }
     requires known { AreKnown program.now.structs todo.old.items }
     ensures known { AreKnown program.now.structs todo.new.items }
     ensures slots { OnOk result (left program.now.structs values.now todo.new.items ≡ slots_in values.now (among program.now.structs structs shape.now) elements ++ left program.now.structs values.now todo.old.items) }
@@ -299,31 +282,115 @@ fn push_spots(
     if arrays.elements == 0 {
         return Ok(());
     }
-    let Some(base) = base_of(structs, arrays.inner) else {
+    let Some(core) = base_of(program, cores, structs, shape.plain) else {
         return Ok(());
     };
     let mut all = all_within(alloc, arrays.rows, elements, values.len())?;
     while let Some(elements) = all.pop() {
-        todo.push(Spot { base, elements })?;
+        todo.push(spot_of(program, structs, shape.plain, core, elements))?;
     }
     Ok(())
 }
 
-/// What a shape that is no array is, None where it is a structure that isn't one of the first.
-fn base_of(structs: usize, shape: &Shape) -> Option<Base>
-    ensures { result ≡ base_of structs shape.now }
+/// What stands for a type that is no array, None where it is a structure that isn't one of the first `structs`.
+fn base_of(program: &Program, cores: &[Option<Core>], structs: usize, plain: Plain) -> Option<Core>
+    requires known { structs ≤ length cores.now }
+    requires fits { structs ≤ length program.now.structs }
+    requires cores { StandFor program.now.structs cores.now }
+    ensures { MatchOption result (IsNothing program.now.structs structs plain) (IsBase program.now.structs structs plain) }
 {
-    match shape {
-        Shape::Scalar(num) => Some(Base::Number(*num)),
-        Shape::Struct(k) => {
-            if (*k as usize) < structs {
-                Some(Base::Struct(*k))
-            } else {
-                None
+    let own = Core {
+        plain,
+        starred: false,
+    };
+    match plain {
+        Plain::Scalar(_) => Some(own),
+        Plain::Struct(k) => {
+            if structs <= k as usize {
+                return None;
+            }
+            match cores[k as usize] {
+                None => Some(own),
+                Some(core) => Some(core),
             }
         }
-        Shape::Array(..) => None,
     }
+}
+
+/// What is to be read at some elements, of a type for which another stands.
+fn spot_of(program: &Program, structs: usize, plain: Plain, core: Core, elements: Elements) -> Spot
+    requires { IsBase program.now.structs structs plain core }
+    ensures { IsSpotOf program.now.structs (among program.now.structs structs (no_array plain)) elements result }
+{
+    if core.starred && !elements.at.as_slice().is_empty() {
+        return Spot {
+            base: plain,
+            elements,
+        };
+    }
+    let Elements { starred, at, more } = elements;
+    Spot {
+        base: core.plain,
+        elements: Elements {
+            starred: starred | core.starred,
+            at,
+            more,
+        },
+    }
+}
+
+/// Of each structure that has the same cells as a simpler type that type: what is left when structures of one field are
+/// unwrapped, as long as the field has one element or is a large array. So an object of a long chain of such structures is
+/// read in one step.
+pub(crate) fn cores(alloc: Global, program: &Program) -> Result<Items<Option<Core>>, OutOfMemory>
+    ensures { IfOk result (AreCores program.now.structs) }
+{
+    let structs = program.structs.as_slice();
+    let mut cores = Vec::with_capacity(alloc, structs.len())?;
+    for k in 0..structs.len() {
+        let core = core_of(program, &cores, k, structs[k].fields.as_slice());
+        cores.push(core)?;
+    }
+    Ok(Items::from_vec(cores))
+}
+
+/// What stands for the structure with this number and these fields, if there is another type that does.
+fn core_of(program: &Program, cores: &[Option<Core>], k: usize, fields: &[FieldDef]) -> Option<Core>
+    requires known { k ≡ length cores.now }
+    requires fits { k < length program.now.structs }
+    requires cores { StandFor program.now.structs cores.now }
+    requires fields { (d : StructDef) → slice_get program.now.structs k ≡ Some d → fields.now ≡ d.fields }
+    ensures { (c : Core) → result ≡ Some c → IsCore program.now.structs (base_layout program.now.structs (Struct k)) c }
+{
+    if fields.len() != 1 {
+        return None;
+    }
+    let shape = &fields[0].shape;
+    if !are_single(shape.dims.as_slice()) {
+        return None;
+    }
+    let starred = any_large(shape.dims.as_slice());
+    match base_of(program, cores, k, shape.plain) {
+        None => None,
+        Some(core) => {
+            Some(Core {
+                plain: core.plain,
+                starred: starred | core.starred,
+            })
+        }
+    }
+}
+
+fn are_single(dims: &[u32]) -> bool
+    ensures { result ≡ list_all is_single dims.now }
+{
+    dims.iter().all(|n| *n == 1 || *n > 128)
+}
+
+fn any_large(dims: &[u32]) -> bool
+    ensures { result ≡ list_any (λ n. nat_lt 128 n) dims.now }
+{
+    dims.iter().any(|n| *n > 128)
 }
 
 /// Adds the fields of a structure at some elements.
@@ -332,12 +399,14 @@ fn push_fields(
     alloc: Global,
     program: &Program,
     table: &[Items<Extent>],
+    cores: &[Option<Core>],
     k: u32,
     elements: &Elements,
     values: &[i128],
     todo: &mut Vec<Spot>,
 ) -> Result<(), OutOfMemory>
     requires table { Covers program.now.structs (length program.now.structs) table.now }
+    requires cores { AreCores program.now.structs cores.now }
     requires inside { k < length program.now.structs }
     requires known { AreKnown program.now.structs todo.old.items }
     ensures known { AreKnown program.now.structs todo.new.items }
@@ -354,6 +423,7 @@ fn push_fields(
             alloc,
             program,
             table,
+            cores,
             k as usize,
             &fields[f].shape,
             at,
@@ -430,16 +500,19 @@ fn leaf(num: Num, elements: &Elements, values: &[i128]) -> Slot
 }
 
 /// Reads one object: a number is a cell, of a structure the fields are to be read.
+#[allow(clippy::too_many_arguments)]
 fn read_spot(
     alloc: Global,
     program: &Program,
     table: &[Items<Extent>],
+    cores: &[Option<Core>],
     spot: &Spot,
     values: &[i128],
     todo: &mut Vec<Spot>,
     out: &mut Vec<Slot>,
 ) -> Result<(), OutOfMemory>
     requires table { Covers program.now.structs (length program.now.structs) table.now }
+    requires cores { AreCores program.now.structs cores.now }
     requires inside { IsKnown program.now.structs spot.now.base }
     requires known { AreKnown program.now.structs todo.old.items }
     ensures known { AreKnown program.now.structs todo.new.items }
@@ -447,11 +520,20 @@ fn read_spot(
     ensures work { OnOk result (weight program.now.structs todo.new.items < work (base_layout program.now.structs spot.now.base) + weight program.now.structs todo.old.items) }
 {
     match spot.base {
-        Base::Number(num) => {
+        Plain::Scalar(num) => {
             out.push(leaf(num, &spot.elements, values))?;
             Ok(())
         }
-        Base::Struct(k) => push_fields(alloc, program, table, k, &spot.elements, values, todo),
+        Plain::Struct(k) => push_fields(
+            alloc,
+            program,
+            table,
+            cores,
+            k,
+            &spot.elements,
+            values,
+            todo,
+        ),
     }
 }
 
@@ -476,21 +558,25 @@ pub(crate) fn slots(
     alloc: Global,
     program: &Program,
     table: &[Items<Extent>],
+    cores: &[Option<Core>],
     shape: &Shape,
     values: &[i128],
 ) -> Result<Vec<Slot>, OutOfMemory>
-    requires { Covers program.now.structs (length program.now.structs) table.now }
+    requires table { Covers program.now.structs (length program.now.structs) table.now }
+    requires cores { AreCores program.now.structs cores.now }
     ensures { IfOk result (λ r. r.items ≡ all_slots values.now (shape_layout program.now.structs shape.now)) }
 {
     let structs = program.structs.len();
     let start = first_element(alloc, values.len())?;
     let mut todo = Vec::new(alloc);
     push_spots(
-        alloc, program, table, structs, shape, start, values, &mut todo,
+        alloc, program, table, cores, structs, shape, start, values, &mut todo,
     )?;
     let mut out = Vec::new(alloc);
     while let Some(spot) = todo.pop() {
-        read_spot(alloc, program, table, &spot, values, &mut todo, &mut out)?;
+        read_spot(
+            alloc, program, table, cores, &spot, values, &mut todo, &mut out,
+        )?;
     }
     Ok(out)
 }

@@ -8,15 +8,16 @@ use Rattle.std.proofs.lemmas.Option.{slice_get_within, slice_get_read, get_or_fr
 use Rattle.std.specs.Fmt.{decimal}
 use Rattle.std.specs.Prelude.{if◌then◌else◌, nat_le, nat_lt, slice_get, codes, min}
 use Rattle.sa_typed.specs.Cells.{Inner, Cell, inner_cells, cells_of, cells, most_elements}
-use Rattle.sa_typed.specs.Layouts.{Layout, Layouts, row, fields, no_field, field, nth_field, before_field, nums, layouts_with, layout_with, struct_layout, layout_of, var_layout}
+use Rattle.sa_typed.specs.Layouts.{Layout, Layouts, row, fields, no_field, field, nth_field, before_field, nums, layouts_with, layout_with, struct_layout, rows, layout_of, var_layout}
 use Rattle.sa_typed.specs.declared.shape.FieldDef.{FieldDef}
 use Rattle.sa_typed.specs.declared.shape.Shape.{Shape}
-use Rattle.sa_typed.specs.declared.shape.Shape.TheVariants as shape
+use Rattle.sa_typed.specs.declared.shape.Plain.{Plain}
+use Rattle.sa_typed.specs.declared.shape.Plain.TheVariants.{Scalar, Struct}
 use Rattle.sa_typed.specs.declared.shape.StructDef.{StructDef}
 use Rattle.sa_typed.specs.declared.program.Program.{Program}
 use Rattle.sa_typed.specs.declared.program.Var.{Var}
 use Rattle.sa_env.specs.declared.ground.Extent.{Extent}
-use Rattle.sa_env.specs.Sizes.{size, sizes, cells_before, among, extent, extents_from, all_extents, made_of}
+use Rattle.sa_env.specs.Sizes.{size, sizes, cells_before, among, no_array, extent, extents_from, all_extents, made_of}
 use Rattle.sa_env.proofs.CellLemmas.{split}
 use Rattle.sa_env.proofs.StepLemmas.{size-small, size-large, size-of-fields, width-is}
 use Rattle.sa_env.proofs.StructLemmas.{among-struct, among-none, among-field, extents-of, extents-at, before-next, before-most, fields_count, count-fields}
@@ -27,30 +28,36 @@ use Rattle.sa_report.specs.Spots.{inner_name, field_inner, inside_layout, IsInsi
 use Rattle.sa_report.proofs.NameLemmas.{positive}
 
 -- ---- numbers alone
-pub leaf-name : (p : Program) (i : Inside) (num : _) → i.shape.now ≡ shape.Scalar num → inside_name p i ≡ []
-unfolding inner_name among layout_with
-leaf-name p i num e = ap (λ (s : Shape). inner_name (among p.structs i.structs s) i.number) e
+pub leaf-name : (p : Program) (i : Inside) (num : _) → inside_layout p i ≡ among p.structs i.structs (no_array (Scalar num)) → inside_name p i ≡ []
+unfolding inner_name among layout_with rows
+leaf-name p i num e = ap (λ (l : Layout). inner_name l i.number) e
+
+-- where no dimension is left
+pub plain-inside : (p : Program) (i : Inside) (x : Plain) → i.dims.now ≡ [] → i.plain ≡ x → inside_layout p i ≡ among p.structs i.structs (no_array x)
+plain-inside p i x h e = ap₂ (λ (ds : List ℕ) (y : Plain). among p.structs i.structs (record { dims = ds; plain = y })) h e
+
+pub array-inside : (p : Program) (i : Inside) (n : ℕ) (rest : List ℕ) → i.dims.now ≡ n ∷ rest → inside_layout p i ≡ row n (among p.structs i.structs (record { dims = rest; plain = i.plain }))
+unfolding among layout_with rows
+array-inside p i n rest h = ap (λ (ds : List ℕ). among p.structs i.structs (record { dims = ds; plain = i.plain })) h
+
+layout-of : (p : Program) (i : Inside) (m : ℕ) (s : Shape) → i.structs ≡ m → i.dims.now ≡ s.dims → i.plain ≡ s.plain → inside_layout p i ≡ among p.structs m s
+layout-of p i m s e f g =
+    ap (λ (k : ℕ). among p.structs k (record { dims = i.dims.now; plain = i.plain })) e
+    ∙ ap₂ (λ (ds : List ℕ) (y : Plain). among p.structs m (record { dims = ds; plain = y })) f g
 
 -- ---- elements
-module _ (p : Program) (i n : Inside) (e : Shape) (dim : ℕ) (inside : IsInside p i) (array : inside_layout p i ≡ row dim (among p.structs i.structs e)) where
-  abbrev l : Layout
-  l = among p.structs i.structs e
-
-  next_layout : n.shape.now ≡ e → n.structs ≡ i.structs → inside_layout p n ≡ l
-  next_layout h k = ap₂ (λ (m : ℕ) (s : Shape). among p.structs m s) k h
-
-  less-deep : n.shape.now ≡ e → n.structs ≡ i.structs → depth (inside_layout p n) < depth (inside_layout p i)
+module _ (p : Program) (i n : Inside) (l : Layout) (dim : ℕ) (inside : IsInside p i) (array : inside_layout p i ≡ row dim l) where
+  less-deep : inside_layout p n ≡ l → depth (inside_layout p n) < depth (inside_layout p i)
   unfolding depth
-  less-deep h k = let a = ap depth (next_layout h k) in let b = ap depth array in omega (arith, a, b)
+  less-deep h = let a = ap depth h in let b = ap depth array in omega (arith, a, b)
 
   known_next : n.structs ≡ i.structs → n.structs ≤ length p.structs
   known_next k = let a = inside.known in omega (arith, a, k)
 
-  pub next-large : (old new : List ℕ) → 128 < dim → n.shape.now ≡ e → n.structs ≡ i.structs → n.cells ≡ i.cells → n.number ≡ i.number → new ≡ old ++ star_text → IsNext p old new i n
+  pub next-large : (old new : List ℕ) → 128 < dim → inside_layout p n ≡ l → n.structs ≡ i.structs → n.cells ≡ i.cells → n.number ≡ i.number → new ≡ old ++ star_text → IsNext p old new i n
   unfolding inner_name star_text
-  next-large old new many h k c j t =
+  next-large old new many own k c j t =
       let test : nat_le dim most_elements ≡ false = grind (arith, nat_tests) in
-      let own = next_layout h k in
       record {
         inside = record {
           known = known_next k;
@@ -60,7 +67,7 @@ module _ (p : Program) (i n : Inside) (e : Shape) (dim : ℕ) (inside : IsInside
         };
         text = ap₂ (λ (x : List ℕ) (y : List ℕ). x ++ y) t (ap₂ inner_name own j) ∙ append_assoc old (codes "[*]") (inner_name l i.number)
             ∙ ap (λ (x : List ℕ). old ++ x) (sym (ap (λ (m : Layout). inner_name m i.number) array ∙ ap (λ (b : Bool). if b then codes "[" ++ (decimal (i.number / size l) ++ (codes "]" ++ inner_name l (i.number % size l))) else codes "[*]" ++ inner_name l i.number) test));
-        less = less-deep h k;
+        less = less-deep own;
       }
 
   pub whole-is : dim ≤ 128 → i.cells ≡ dim * size l
@@ -75,12 +82,11 @@ module _ (p : Program) (i n : Inside) (e : Shape) (dim : ℕ) (inside : IsInside
   pub one-width : dim ≤ 128 → i.cells / dim ≡ size l
   one-width few = width-is dim (size l) i.cells (some-elements few) (whole-is few)
 
-  pub next-small : (old new : List ℕ) → dim ≤ 128 → n.shape.now ≡ e → n.structs ≡ i.structs → n.cells ≡ i.cells / dim → n.number ≡ i.number % (i.cells / dim) → new ≡ old ++ index_text (i.number / (i.cells / dim)) →
+  pub next-small : (old new : List ℕ) → dim ≤ 128 → inside_layout p n ≡ l → n.structs ≡ i.structs → n.cells ≡ i.cells / dim → n.number ≡ i.number % (i.cells / dim) → new ≡ old ++ index_text (i.number / (i.cells / dim)) →
       IsNext p old new i n
   unfolding inner_name index_text
-  next-small old new few h k c j t =
+  next-small old new few own k c j t =
       let test : nat_le dim most_elements ≡ true = grind (arith, nat_tests) in
-      let own = next_layout h k in
       let w = one-width few in
       let some = some-cells few in
       let wide = c ∙ w in
@@ -97,7 +103,7 @@ module _ (p : Program) (i n : Inside) (e : Shape) (dim : ℕ) (inside : IsInside
         text = ap₂ (λ (x : List ℕ) (y : List ℕ). x ++ y) written (ap₂ inner_name own number) ∙ append_assoc old (codes "[" ++ (decimal (i.number / size l) ++ codes "]")) rest
             ∙ ap (λ (x : List ℕ). old ++ (codes "[" ++ x)) (append_assoc (decimal (i.number / size l)) (codes "]") rest)
             ∙ ap (λ (x : List ℕ). old ++ x) (sym (ap (λ (m : Layout). inner_name m i.number) array ∙ ap (λ (b : Bool). if b then codes "[" ++ (decimal (i.number / size l) ++ (codes "]" ++ rest)) else codes "[*]" ++ inner_name l i.number) test));
-        less = less-deep h k;
+        less = less-deep own;
       }
 
 -- ---- fields
@@ -155,16 +161,16 @@ before-is ls f small h =
     let most = before-most ls f in
     ap (λ (x : Extent). x.cells) (get_or_from_slice_get (extents_from 0 0 ls) f (extent (0 + cells_before ls f) (0 + before_field ls f)) (extent 0 0) at) ∙ fits (cells_before ls f) (omega (arith, most, small))
 
-no-fields : (structs : List StructDef) (m k : ℕ) → m ≤ length structs → m ≤ k → size (among structs m (shape.Struct k)) ≡ 0
+no-fields : (structs : List StructDef) (m k : ℕ) → m ≤ length structs → m ≤ k → size (among structs m (no_array (Struct k))) ≡ 0
 unfolding sizes
 no-fields structs m k h l = ap size (among-none structs m k h l) ∙ size-of-fields no_field
 
-module _ (p : Program) (i : Inside) (k : ℕ) (inside : IsInside p i) (shape : i.shape.now ≡ shape.Struct k) where
+module _ (p : Program) (i : Inside) (k : ℕ) (inside : IsInside p i) (shape : inside_layout p i ≡ among p.structs i.structs (no_array (Struct k))) where
   pub struct-known : k < i.structs
   struct-known = elim (cases_lt k i.structs) [
     | inl less ↦ less
     | inr more ↦
-        absurd (let a = inside.cells ∙ ap (λ (s : Shape). size (among p.structs i.structs s)) shape ∙ no-fields p.structs i.structs k inside.known more in let b = inside.number in omega (arith, a, b))
+        absurd (let a = inside.cells ∙ ap size shape ∙ no-fields p.structs i.structs k inside.known more in let b = inside.number in omega (arith, a, b))
   ]
 
   pub struct-there : k < length p.structs
@@ -175,7 +181,7 @@ module _ (p : Program) (i : Inside) (k : ℕ) (inside : IsInside p i) (shape : i
     ls = made_of p.structs k d
 
     fields-layout : inside_layout p i ≡ fields ls
-    fields-layout = ap (λ (s : Shape). among p.structs i.structs s) shape ∙ among-struct p.structs i.structs k d inside.known struct-known there
+    fields-layout = shape ∙ among-struct p.structs i.structs k d inside.known struct-known there
 
     fields-cells : i.cells ≡ sizes ls
     fields-cells = inside.cells ∙ ap size fields-layout ∙ size-of-fields ls
@@ -212,7 +218,7 @@ module _ (p : Program) (i : Inside) (k : ℕ) (inside : IsInside p i) (shape : i
       pub field-order : before es f ≤ before es (f + 1)
       field-order = (let a = field.from in let b = field.until in omega (arith, a, b))
 
-      module _ (n : Inside) (x : FieldDef) (at : slice_get d.fields f ≡ Some x) (same : n.shape.now ≡ x.shape) (structs : n.structs ≡ k) (cells : n.cells ≡ before es (f + 1) - before es f) (number : n.number ≡ i.number - before es f) where
+      module _ (n : Inside) (x : FieldDef) (at : slice_get d.fields f ≡ Some x) (same : n.dims.now ≡ x.shape.dims) (plain : n.plain ≡ x.shape.plain) (structs : n.structs ≡ k) (cells : n.cells ≡ before es (f + 1) - before es f) (number : n.number ≡ i.number - before es f) where
         abbrev m : Layout
         m = among p.structs k x.shape
 
@@ -220,7 +226,7 @@ module _ (p : Program) (i : Inside) (k : ℕ) (inside : IsInside p i) (shape : i
         nth = among-field p.structs k f d x at
 
         own : inside_layout p n ≡ m
-        own = ap₂ (λ (s : ℕ) (t : Shape). among p.structs s t) structs same
+        own = layout-of p n k x.shape structs same plain
 
         start : before es f ≡ cells_before ls f
         start = starts f (let a = field-there in let b = count-is in omega (arith, a, b))
@@ -252,7 +258,7 @@ module _ (p : Program) (i : Inside) (k : ℕ) (inside : IsInside p i) (shape : i
             }
 
 -- what is read of the tables
-pub def-is : (p : Program) (i : Inside) (k : ℕ) (ds : List StructDef) (d : StructDef) → IsInside p i → i.shape.now ≡ shape.Struct k → ds ≡ p.structs → d ≡ get_or ds k d → slice_get p.structs k ≡ Some d
+pub def-is : (p : Program) (i : Inside) (k : ℕ) (ds : List StructDef) (d : StructDef) → IsInside p i → inside_layout p i ≡ among p.structs i.structs (no_array (Struct k)) → ds ≡ p.structs → d ≡ get_or ds k d → slice_get p.structs k ≡ Some d
 def-is p i k ds d inside s e h =
     slice_get_read p.structs (length p.structs) k d refl (struct-there p i k inside s) (h ∙ ap (λ (xs : List StructDef). get_or xs k d) e)
 
@@ -290,9 +296,9 @@ var-small p v x e =
     omega (arith, a, b, c, d)
 
 module _ (p : Program) (s : Spot) (x : Var) (i : Inside) (spot : IsSpot p s) (few : length (cells p) ≤ 65536) (there : slice_get p.vars s.var ≡ Some x)
-    (shape : i.shape.now ≡ x.shape) (structs : i.structs ≡ length p.structs) (cells : i.cells ≡ size (layout_of p s.var)) (number : i.number ≡ s.number) where
+    (dims : i.dims.now ≡ x.shape.dims) (plain : i.plain ≡ x.shape.plain) (structs : i.structs ≡ length p.structs) (cells : i.cells ≡ size (layout_of p s.var)) (number : i.number ≡ s.number) where
   first-layout : inside_layout p i ≡ layout_of p s.var
-  first-layout = ap₂ (λ (m : ℕ) (t : Shape). among p.structs m t) structs shape ∙ sym (whole-layout p s.var x there)
+  first-layout = layout-of p i (length p.structs) x.shape structs dims plain ∙ sym (whole-layout p s.var x there)
 
   pub begins-inside : IsInside p i
   begins-inside = record {
@@ -302,12 +308,13 @@ module _ (p : Program) (s : Spot) (x : Var) (i : Inside) (spot : IsSpot p s) (fe
     number = (let a = spot.number in omega (arith, a, cells, number));
   }
 
-pub begins-name : (p : Program) (s : Spot) (x : Var) (m : ℕ) → slice_get p.vars s.var ≡ Some x → m ≡ length p.structs →
-    (old a b d : List ℕ) → a ≡ old ++ x.name → b ≡ a ++ place_text x.home x.pos → d ≡ b ++ inner_name (among p.structs m x.shape) s.number → d ≡ old ++ spot_name p s
+pub begins-name : (p : Program) (s : Spot) (x : Var) (m : ℕ) (dims : List ℕ) → slice_get p.vars s.var ≡ Some x → m ≡ length p.structs → dims ≡ x.shape.dims →
+    (old a b d : List ℕ) → a ≡ old ++ x.name → b ≡ a ++ place_text x.home x.pos → d ≡ b ++ inner_name (among p.structs m (record { dims = dims; plain = x.shape.plain })) s.number → d ≡ old ++ spot_name p s
 unfolding spot_name
-begins-name p s x m there known old a b d e f g =
+begins-name p s x m dims there known same old a b d e f g =
     let steps = inner_name (layout_of p s.var) s.number in
-    let own : among p.structs m x.shape ≡ layout_of p s.var = ap (λ (k : ℕ). among p.structs k x.shape) known ∙ sym (whole-layout p s.var x there) in
+    let own : among p.structs m (record { dims = dims; plain = x.shape.plain }) ≡ layout_of p s.var
+    = ap (λ (ns : List ℕ). among p.structs m (record { dims = ns; plain = x.shape.plain })) same ∙ ap (λ (k : ℕ). among p.structs k x.shape) known ∙ sym (whole-layout p s.var x there) in
     g ∙ ap₂ (λ (y : List ℕ) (z : List ℕ). y ++ z) (f ∙ ap (λ (y : List ℕ). y ++ place_text x.home x.pos) e ∙ append_assoc old x.name (place_text x.home x.pos)) (ap (λ (l : Layout). inner_name l s.number) own)
     ∙ append_assoc old (x.name ++ place_text x.home x.pos) steps ∙ ap (λ (o : Option Var). old ++ (var_text o ++ steps)) (sym there)
 

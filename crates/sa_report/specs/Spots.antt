@@ -70,7 +70,7 @@ spot_name p s = var_text (slice_get p.vars s.var) ++ inner_name (layout_of p s.v
 
 -- ---- steps on the way to a cell
 abbrev pub inside_layout : Program → Inside → Layout
-inside_layout p i = among p.structs i.structs i.shape.now
+inside_layout p i = among p.structs i.structs (record { dims = i.dims.now; plain = i.plain })
 
 pub record IsInside (p : Program) (i : Inside) : Type 0 where
   pub known : i.structs ≤ length p.structs

@@ -1,17 +1,16 @@
 //! Where the cells of a program stand, and their names.
 
-ghost use Rattle.std.specs.Prelude.{◌≡◌, ◌++◌, ◌≤◌, length, IfOk, OnOk, Some};
+ghost use Rattle.std.specs.Prelude.{◌≡◌, ◌++◌, ◌≤◌, ◌∷◌, length, IfOk, OnOk, Some};
 ghost use Rattle.sa_typed.specs.Cells.{cells};
-ghost use Rattle.sa_typed.specs.Layouts.{row};
-ghost use Rattle.sa_typed.specs.declared.shape.Shape.TheVariants.{Struct};
+ghost use Rattle.sa_typed.specs.declared.shape.Plain.TheVariants.{Struct};
 ghost use Rattle.sa_env.specs.Grounds.{IsGround};
-ghost use Rattle.sa_env.specs.Sizes.{among};
+ghost use Rattle.sa_env.specs.Sizes.{among, no_array};
 ghost use Rattle.sa_report.specs.Names.{place_text};
 ghost use Rattle.sa_report.specs.Spots.{has_home, spots_from, spots_at, AreCells, IsSpot, spot_name, inside_layout, IsInside, inside_name, IsNext, Steps, HasField, IsField, index_text, star_text, dot_text, at_text};
 
 use sa_base::{OutOfMemory, Pos};
 use sa_env::{Extent, Ground};
-use sa_typed::{Home, Program, Shape, Var};
+use sa_typed::{Home, Plain, Program, Var};
 use std::alloc::Global;
 
 /// Where variables of one kind live.
@@ -36,11 +35,12 @@ pub struct Cells {
     pub spots: Vec<Spot>,
 }
 
-/// A cell within an object: the object's shape, which may hold the first `structs` structures, how many cells it has, and the
-/// number of the cell among them.
+/// A cell within an object: the dimensions that are left of the object's shape, what they are around, which may hold the first
+/// `structs` structures, how many cells it has, and the number of the cell among them.
 #[derive(Clone, Copy)]
 struct Inside<'a> {
-    shape: &'a Shape,
+    dims: &'a [u32],
+    plain: Plain,
     structs: usize,
     cells: usize,
     number: usize,
@@ -136,25 +136,23 @@ fn push_element<'a>(
     alloc: Global,
     text: &mut Vec<u8>,
     program: &Program,
-    element: &'a Shape,
     n: u32,
+    rest: &'a [u32],
     at: Inside<'a>,
 ) -> Result<Inside<'a>, OutOfMemory>
     requires at { IsInside program.now at }
-    requires array { inside_layout program.now at ≡ row n (among program.now.structs at.structs element.now) }
+    requires array { at.dims.now ≡ n ∷ rest.now }
     ensures { IfOk result (λ next. IsNext program.now text.old.items text.new.items at.entry next) }
 {
     if n > 128 {
         push_star(text)?;
-        return Ok(Inside {
-            shape: element,
-            ..at
-        });
+        return Ok(Inside { dims: rest, ..at });
     }
     let cells = at.cells / n as usize;
     push_index(alloc, text, at.number / cells)?;
     Ok(Inside {
-        shape: element,
+        dims: rest,
+        plain: at.plain,
         structs: at.structs,
         cells,
         number: at.number % cells,
@@ -189,7 +187,7 @@ fn push_field<'a>(
 ) -> Result<Inside<'a>, OutOfMemory>
     requires ground { IsGround program.now ground.now }
     requires at { IsInside program.now at }
-    requires shape { at.shape.now ≡ Struct k }
+    requires shape { inside_layout program.now at ≡ among program.now.structs at.structs (no_array (Struct k)) }
     ensures { IfOk result (λ next. IsNext program.now text.old.items text.new.items at.entry next) }
 {
     let made = &program.structs.as_slice()[k as usize];
@@ -198,7 +196,8 @@ fn push_field<'a>(
     let field = &made.fields.as_slice()[f];
     push_dot(text, field.name.bytes())?;
     Ok(Inside {
-        shape: &field.shape,
+        dims: field.shape.dims.as_slice(),
+        plain: field.shape.plain,
         structs: k as usize,
         cells: extents[f + 1].cells - extents[f].cells,
         number: at.number - extents[f].cells,
@@ -217,14 +216,14 @@ fn push_step<'a>(
     requires at { IsInside program.now at }
     ensures { IfOk result (Steps program.now text.old.items text.new.items at.entry) }
 {
-    match at.shape {
-        Shape::Scalar(_) => Ok(None),
-        Shape::Array(element, n) => {
-            let next = push_element(alloc, text, program, element.get(), *n, at)?;
-            Ok(Some(next))
-        }
-        Shape::Struct(k) => {
-            let next = push_field(text, program, ground, *k, at)?;
+    if let [n, rest @ ..] = at.dims {
+        let next = push_element(alloc, text, program, *n, rest, at)?;
+        return Ok(Some(next));
+    }
+    match at.plain {
+        Plain::Scalar(_) => Ok(None),
+        Plain::Struct(k) => {
+            let next = push_field(text, program, ground, k, at)?;
             Ok(Some(next))
         }
     }
@@ -285,7 +284,8 @@ pub fn push_name(
     text.extend_from_slice(var.name.bytes())?;
     push_place(alloc, text, var.home, var.pos)?;
     let start = Inside {
-        shape: &var.shape,
+        dims: var.shape.dims.as_slice(),
+        plain: var.shape.plain,
         structs: program.structs.len(),
         cells: stretch.cells,
         number: spot.number,

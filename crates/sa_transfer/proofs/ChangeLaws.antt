@@ -7,14 +7,14 @@ use Rattle.sa_base.specs.declared.num.Num.TheVariants.{I32}
 use Rattle.sa_interval.specs.Span.{Span}
 use Rattle.sa_interval.specs.Rows.{single}
 use Rattle.sa_typed.specs.Cells.{Cell, cells}
-use Rattle.sa_typed.specs.Layouts.{leaf, fields, layout_with, layouts_with, struct_layout, shape_layout, layout_of, num_in}
+use Rattle.sa_typed.specs.Layouts.{leaf, fields, layout_with, layouts_with, struct_layout, rows, shape_layout, layout_of, num_in}
 use Rattle.sa_typed.specs.WellTyped.{type_of, IsLink, IsTypedAccess}
 use Rattle.sa_typed.specs.declared.expr.Access.{Access}
 use Rattle.sa_typed.specs.declared.expr.Expr.{Expr}
 use Rattle.sa_typed.specs.declared.expr.Expr.TheVariants as v
 use Rattle.sa_typed.specs.declared.expr.Operator.{Operator}
+use Rattle.sa_typed.specs.declared.shape.Plain.TheVariants.{Scalar, Struct}
 use Rattle.sa_typed.specs.declared.shape.Shape.{Shape}
-use Rattle.sa_typed.specs.declared.shape.Shape.TheVariants as shape
 use Rattle.sa_typed.specs.declared.shape.StructDef.{StructDef}
 use Rattle.sa_typed.specs.declared.program.Program.{Program}
 use Rattle.sa_operators.specs.Operators.{IsIn}
@@ -109,16 +109,20 @@ struct_num (d ∷ older) k =
     let fs = fields (layouts_with (λ k. struct_layout older k) d.fields) in
     elim (k == length older) as (λ b. num_in (if b then fs else struct_layout older k) ≡ I32) [ true ↦ refl | false ↦ struct_num older k ]
 
-pub scalar_num : (ds : List StructDef) (num : Num) → num_in (shape_layout ds (shape.Scalar num)) ≡ num
-unfolding layout_with
-scalar_num ds num = refl
+pub scalar_num : (ds : List StructDef) (s : Shape) (num : Num) → s.dims ≡ [] → s.plain ≡ Scalar num → num_in (shape_layout ds s) ≡ num
+unfolding layout_with rows
+scalar_num ds s num h e = rw (h, e) refl
 
-pub struct_is : (ds : List StructDef) (k : ℕ) → num_in (shape_layout ds (shape.Struct k)) ≡ I32
-unfolding layout_with
-struct_is ds k = struct_num (reverse ds) k
+pub struct_is : (ds : List StructDef) (s : Shape) (k : ℕ) → s.dims ≡ [] → s.plain ≡ Struct k → num_in (shape_layout ds s) ≡ I32
+unfolding layout_with rows
+struct_is ds s k h e = rw (h, e) (struct_num (reverse ds) k)
 
-pub array_num : (ds : List StructDef) (s : Shape) (n : ℕ) → num_in (shape_layout ds (shape.Array s n)) ≡ I32
-unfolding layout_with Rattle.sa_typed.specs.declared.shape.Shape.TheBlock.hidden-the_row-Shape-0 denote.Hole.Carrier.hidden
-array_num ds s n = refl
+pub array_num : (ds : List StructDef) (s : Shape) → (s.dims ≡ [] → ⊥) → num_in (shape_layout ds s) ≡ I32
+unfolding layout_with rows
+array_num ds s h = cases s.dims h
+  where
+    cases : (ns : List ℕ) → (ns ≡ [] → ⊥) → num_in (shape_layout ds (record { dims = ns; plain = s.plain })) ≡ I32
+    cases [] some = absurd (some refl)
+    cases (n ∷ ns) some = refl
 
 pub ruleset of_shapes = (scalar_num, struct_is, array_num)

@@ -23,7 +23,7 @@ use sa_base::{Alarm, Num, Pos};
 use sa_env::{Ground, named, set_items, set_ranges};
 use sa_interval::Interval;
 use sa_reference::Flat;
-use sa_typed::{Access, Expr, Operator, Program, Shape, Simple, Start};
+use sa_typed::{Access, Expr, Operator, Plain, Program, Shape, Simple, Start};
 use sqlite_items::Items;
 use std::alloc::Global;
 
@@ -179,9 +179,12 @@ fn compound(
 fn shape_num(shape: &Shape) -> Num
     ensures { (structs : List StructDef) → result ≡ num_in (shape_layout structs shape.now) }
 {
-    match shape {
-        Shape::Scalar(num) => *num,
-        Shape::Struct(_) | Shape::Array(_, _) => Num::I32,
+    if !shape.dims.is_empty() {
+        return Num::I32;
+    }
+    match shape.plain {
+        Plain::Scalar(num) => num,
+        Plain::Struct(_) => Num::I32,
     }
 }
 

@@ -19,15 +19,15 @@ use Rattle.sa_env.proofs.env.set_values.Goals as goal
 pub returns-in_default-clause-value : goal.returns-in_default-clause-value
 returns-in_default-clause-value c = set-unknown (items_span c.args.program.now) c.args.var c.args.program.now c.args.spans.now (sym c.in_default.ensures.value)
 
-pub slots-requires : goal.slots-requires
-slots-requires c = covers-all c.args.program.now.structs c.as_slice-table.result.now (c.as_slice-table.ensures ∙ c.requires.ground.structs)
+pub slots-requires-clause-table : goal.slots-requires-clause-table
+slots-requires-clause-table c = covers-all c.args.program.now.structs c.as_slice-table.result.now (c.as_slice-table.ensures ∙ c.requires.ground.structs)
 
 pub slot_spans-requires : goal.slot_spans-requires
 slot_spans-requires c =
     let p = c.args.program.now in
     let x = c.in-Some.known.now in
     let whole : c.deref.result.now ≡ all_slots x.initial (shape_layout p.structs x.shape)
-    = c.deref.ensures.value ∙ c.in_ok-slots.ensures ∙ ap (λ (zs : List ℤ). all_slots zs (shape_layout p.structs x.shape)) c.as_slice.ensures in
+    = c.deref.ensures.value ∙ c.in_ok-slots.ensures ∙ ap (λ (zs : List ℤ). all_slots zs (shape_layout p.structs x.shape)) c.as_slice-2.ensures in
     subst (λ (l : List Slot). All IsTypedSlot l) (sym whole)
     (slots-typed p c.args.var x c.in-Some-get.stretch.now (sym c.in-Some.ensures.value) (c.in-Some-get.ensures.value ∙ c.requires.ground.vars c.args.var) c.requires.typed)
 
@@ -40,7 +40,7 @@ place-requires-clause-fits c =
     let fits = stretch-fits p c.args.var x st (sym c.in-Some.ensures.value) at c.requires.ground.few in
     let many = length-inner p c.args.var x st (sym c.in-Some.ensures.value) at in
     let new = c.deref-2.ensures.value ∙ c.in_ok-new.ensures
-    ∙ ap (λ (l : List Slot). map slot_span l) (c.deref.ensures.value ∙ c.in_ok-slots.ensures ∙ ap (λ (zs : List ℤ). all_slots zs (shape_layout p.structs x.shape)) c.as_slice.ensures)
+    ∙ ap (λ (l : List Slot). map slot_span l) (c.deref.ensures.value ∙ c.in_ok-slots.ensures ∙ ap (λ (zs : List ℤ). all_slots zs (shape_layout p.structs x.shape)) c.as_slice-2.ensures)
     ∙ items-are p c.args.var x st (sym c.in-Some.ensures.value) at in
     let n = ap length new ∙ length-map (inner_cells (layout_of p c.args.var)) (λ i. items_span p (cell_of c.args.var i)) in
     let m = length-in (cells p) c.args.spans.now c.requires.spans in
@@ -59,7 +59,7 @@ set-is c =
     let st = c.in-Some-get.stretch.now in
     let at = c.in-Some-get.ensures.value ∙ c.requires.ground.vars c.args.var in
     let new = c.deref-2.ensures.value ∙ c.in_ok-new.ensures
-    ∙ ap (λ (l : List Slot). map slot_span l) (c.deref.ensures.value ∙ c.in_ok-slots.ensures ∙ ap (λ (zs : List ℤ). all_slots zs (shape_layout p.structs x.shape)) c.as_slice.ensures)
+    ∙ ap (λ (l : List Slot). map slot_span l) (c.deref.ensures.value ∙ c.in_ok-slots.ensures ∙ ap (λ (zs : List ℤ). all_slots zs (shape_layout p.structs x.shape)) c.as_slice-2.ensures)
     ∙ items-are p c.args.var x st (sym c.in-Some.ensures.value) at in
     c.place.ensures ∙ set-known p c.args.var x st (sym c.in-Some.ensures.value) at (items_span p) c.args.spans.now c.deref-2.result.now (length-in (cells p) c.args.spans.now c.requires.spans) new
 

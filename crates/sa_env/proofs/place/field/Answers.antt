@@ -48,4 +48,4 @@ pub returns : goal.returns
 returns c =
     next-field c.args.program.now c.args.f c.args.k c.args.place c.in-Some.made.now c.requires.place c.requires.shape c.if-structs-k.false (sym c.in-Some.ensures.value)
     c.args.ground.now.structs c.requires.ground.structs c.in-Some-get.field.now (sym c.in-Some-get.ensures.value) c.in-Some-get-2.extents.now c.in-Some-get-3.before.now c.in-Some-get-4.behind.now
-    (sym c.in-Some-get-2.ensures.value) (sym c.in-Some-get-3.ensures.value) (sym c.in-Some-get-4.ensures.value) _ refl refl refl (c.in_ok-moved.ensures ∙ rw c.deref.ensures.value refl)
+    (sym c.in-Some-get-2.ensures.value) (sym c.in-Some-get-3.ensures.value) (sym c.in-Some-get-4.ensures.value) _ c.as_slice.ensures refl refl refl (c.in_ok-moved.ensures ∙ rw c.deref.ensures.value refl)

@@ -13,4 +13,4 @@ returns-in_default-get c =
 pub returns : goal.returns
 returns c =
     start c.args.program.now c.args.var c.in-Some.known.now c.in-Some-get.stretch.now _ c.requires.few (sym c.in-Some.ensures.value) (c.in-Some-get.ensures.value ∙ c.requires.vars c.args.var)
-    refl c.len.ensures refl (c.in_ok-push.ensures.items ∙ rw c.new-firsts.ensures.items refl)
+    c.as_slice.ensures refl c.len.ensures refl (c.in_ok-push.ensures.items ∙ rw c.new-firsts.ensures.items refl)

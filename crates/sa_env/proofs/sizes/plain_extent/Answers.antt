@@ -3,4 +3,4 @@ use Rattle.sa_env.proofs.SizeLemmas.{number-extent}
 use Rattle.sa_env.proofs.sizes.plain_extent.Goals as goal
 
 pub returns-in-Scalar : goal.returns-in-Scalar
-returns-in-Scalar c = sym (number-extent c.args.program.now.structs c.args.structs c.args.shape.now _ c.in-Scalar.is)
+returns-in-Scalar c = sym (number-extent c.args.program.now.structs c.args.structs c.args.plain _ c.in-Scalar.is)

@@ -7,7 +7,8 @@ use Rattle.sa_env.specs.declared.slots.Row.{Row}
 use Rattle.sa_env.specs.Sizes.{capped}
 use Rattle.sa_env.specs.Slots.{slots_in}
 use Rattle.sa_env.specs.Spots.{wound, HasWidths, work}
-use Rattle.sa_env.proofs.SpotLemmas.{wound-push, widths-pop, one-times}
+use Rattle.sa_env.proofs.SpotLemmas.{wound-push, widths-pop}
+use Rattle.sa_env.proofs.SizeLemmas.{one-times}
 use Rattle.sa_env.proofs.slots.all_within.Goals as goal
 
 pub loop-row-preserved : goal.loop-row-preserved

@@ -5,7 +5,7 @@ use Rattle.sa_typed.specs.Layouts.{before_field}
 use Rattle.sa_typed.specs.declared.shape.FieldDef.{FieldDef}
 use Rattle.sa_typed.specs.declared.shape.StructDef.{StructDef}
 use Rattle.sa_env.specs.declared.ground.Extent.{Extent}
-use Rattle.sa_env.specs.declared.slots.Base.TheVariants.{Struct}
+use Rattle.sa_typed.specs.declared.shape.Plain.TheVariants.{Struct}
 use Rattle.sa_env.specs.declared.slots.Elements.{Elements}
 use Rattle.sa_env.specs.declared.slots.Slot.{Slot}
 use Rattle.sa_env.specs.Sizes.{among, fields_of}

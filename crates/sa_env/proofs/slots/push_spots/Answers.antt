@@ -1,13 +1,13 @@
-use Rattle.std.proofs.Common.{◌≡◌, ◌∙◌, ◌+◌, ◌*◌, ◌++◌, [], ap, refl, sym, subst, List, ℕ, length, arith}
+use Rattle.std.proofs.Common.{◌≡◌, ◌∙◌, ◌+◌, ◌*◌, ◌≤◌, ◌++◌, [], ap, refl, sym, subst, List, ℕ, length, arith}
 use Rattle.std.specs.List.{flat_map}
 use Rattle.std.proofs.lemmas.List.{nil_from_length}
 use Rattle.sa_typed.specs.Layouts.{Layout, nums}
 use Rattle.sa_env.specs.declared.slots.Elements.{Elements}
 use Rattle.sa_env.specs.declared.slots.Slot.{Slot}
-use Rattle.sa_env.specs.Sizes.{among, capped}
+use Rattle.sa_env.specs.Sizes.{among, no_array, capped}
 use Rattle.sa_env.specs.Slots.{slots_in}
-use Rattle.sa_env.specs.Spots.{base_layout, IsKnown, AreKnown, HasWidths, left, work, weight, wound}
-use Rattle.sa_env.proofs.SpotLemmas.{base-known, no-base, known-push, spot-step, weight-step, nothing-read}
+use Rattle.sa_env.specs.Spots.{AreKnown, HasWidths, left, work, weight, wound}
+use Rattle.sa_env.proofs.SpotLemmas.{none-within, known-push, spot-step, weight-step, nothing-read}
 use Rattle.sa_env.proofs.slots.push_spots.Goals as goal
 
 pub returns-then-arrays-eq0-clause-slots : goal.returns-then-arrays-eq0-clause-slots
@@ -17,7 +17,7 @@ returns-then-arrays-eq0-clause-slots c =
 
 pub returns-in_default-clause-slots : goal.returns-in_default-clause-slots
 returns-in_default-clause-slots c =
-    let none = no-base c.args.program.now.structs c.args.structs c.in_ok-arrays.arrays.inner.now c.in_ok-arrays.arrays.rows.items c.requires.table.known c.in_ok-arrays.ensures.plain c.in_default.ensures in
+    let none = none-within c.args.program.now.structs c.args.structs c.args.shape.now.plain c.in_ok-arrays.arrays.rows.items c.in_default.ensures in
     let count : length (nums (among c.args.program.now.structs c.args.structs c.args.shape.now)) ≡ 0 = ap (λ (l : Layout). length (nums l)) c.in_ok-arrays.ensures.whole ∙ none in
     nothing-read c.args.values.now (among c.args.program.now.structs c.args.structs c.args.shape.now) c.args.elements (left c.args.program.now.structs c.args.values.now c.args.todo.now.items)
     (ap (λ (n : ℕ). capped n) count)
@@ -25,42 +25,35 @@ returns-in_default-clause-slots c =
 pub loop-elements-preserved : goal.loop-elements-preserved
 loop-elements-preserved c =
     let p = c.args.program.now.structs in
-    let b = c.in-Some.base in
-    let k = base-known p c.args.structs c.in_ok-arrays.arrays.inner.now b c.requires.table.known c.in-Some.ensures in
+    let inner = among p c.args.structs (no_array c.args.shape.now.plain) in
+    let s = c.spot_of.result in
+    let is = c.spot_of.ensures in
+    let less = c.loop-elements.invariant.work in
+    let step = weight-step p inner c.pop.new.self.items c.loop-elements.all.items c.in-Some-pop.elements c.loop-elements.todo.items c.push.new.self.items s is c.in-Some-pop.ensures.items c.in_ok-push.ensures.items in
     record {
-      known = subst (λ ss. AreKnown p ss) (sym c.in_ok-push.ensures.items) (known-push p c.loop-elements.todo.items _ c.loop-elements.invariant.known k.1);
+      known = subst (λ ss. AreKnown p ss) (sym c.in_ok-push.ensures.items) (known-push p c.loop-elements.todo.items s c.loop-elements.invariant.known is.known);
       slots =
-          spot-step p b c.pop.new.self.items c.loop-elements.all.items c.in-Some-pop.elements c.loop-elements.todo.items c.push.new.self.items c.in-Some-pop.ensures.items c.in_ok-push.ensures.items
+          spot-step p inner c.pop.new.self.items c.loop-elements.all.items c.in-Some-pop.elements c.loop-elements.todo.items c.push.new.self.items s is c.in-Some-pop.ensures.items c.in_ok-push.ensures.items
           c.args.values.now
           ∙ c.loop-elements.invariant.slots;
-      work =
-          weight-step p b c.pop.new.self.items c.loop-elements.all.items c.in-Some-pop.elements c.loop-elements.todo.items c.push.new.self.items c.in-Some-pop.ensures.items c.in_ok-push.ensures.items
-          ∙ c.loop-elements.invariant.work;
+      work = omega (arith, step, less);
     }
 
 pub returns-clause-slots : goal.returns-clause-slots
 returns-clause-slots c =
     let p = c.args.program.now.structs in
     let zs = c.args.values.now in
-    let b = c.in-Some.base in
-    let a = c.in_ok-arrays.arrays in
-    let inner = among p c.args.structs a.inner.now in
-    let k = base-known p c.args.structs a.inner.now b c.requires.table.known c.in-Some.ensures in
+    let inner = among p c.args.structs (no_array c.args.shape.now.plain) in
     let none : c.loop-elements.all.items ≡ [] = nil_from_length c.loop-elements.all.items (sym c.loop-elements.all.ok.0 ∙ c.in_default-pop.ensures.cases.0) in
-    ap (λ (es : List Elements). flat_map (slots_in zs (base_layout p b)) es ++ left p zs c.loop-elements.todo.items) (sym none)
+    ap (λ (es : List Elements). flat_map (slots_in zs inner) es ++ left p zs c.loop-elements.todo.items) (sym none)
     ∙ c.loop-elements.invariant.slots
-    ∙ ap (λ (l : Layout). flat_map (slots_in zs l) c.in_ok-all.all.items ++ left p zs c.args.todo.now.items) (sym k.0)
     ∙ ap (λ (l : List Slot). l ++ left p zs c.args.todo.now.items) (c.in_ok-all.ensures.slots zs inner refl c.in_ok-arrays.ensures.widths)
     ∙ ap (λ (l : Layout). slots_in zs l c.args.elements ++ left p zs c.args.todo.now.items) (sym c.in_ok-arrays.ensures.whole)
 
 pub returns-clause-work : goal.returns-clause-work
 returns-clause-work c =
     let p = c.args.program.now.structs in
-    let b = c.in-Some.base in
-    let a = c.in_ok-arrays.arrays in
-    let inner = among p c.args.structs a.inner.now in
-    let k = base-known p c.args.structs a.inner.now b c.requires.table.known c.in-Some.ensures in
-    let same : length c.in_ok-all.all.items * work (base_layout p b) ≡ work (among p c.args.structs c.args.shape.now)
-    = ap (λ (l : Layout). length c.in_ok-all.all.items * work l) (sym k.0) ∙ c.in_ok-all.ensures.work inner ∙ ap work (sym c.in_ok-arrays.ensures.whole) in
+    let inner = among p c.args.structs (no_array c.args.shape.now.plain) in
+    let same : length c.in_ok-all.all.items * work inner ≡ work (among p c.args.structs c.args.shape.now) = c.in_ok-all.ensures.work inner ∙ ap work (sym c.in_ok-arrays.ensures.whole) in
     let w = c.loop-elements.invariant.work in
     omega (arith, same, w)

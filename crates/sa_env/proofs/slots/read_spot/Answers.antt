@@ -2,7 +2,6 @@ use Rattle.std.proofs.Common.{◌≡◌, ◌∙◌, ◌+◌, ◌∷◌, [], ◌+
 use Rattle.std.specs.Prelude.{Option}
 use Rattle.sa_interval.specs.Span.{Span}
 use Rattle.sa_typed.specs.Layouts.{Layout, leaf}
-use Rattle.sa_env.specs.declared.slots.Base.{Base}
 use Rattle.sa_env.specs.declared.slots.Slot.{Slot}
 use Rattle.sa_env.specs.Slots.{slots_in, slot, or_zero}
 use Rattle.sa_env.specs.Spots.{base_layout, left, work, weight}
@@ -10,8 +9,8 @@ use Rattle.sa_env.proofs.SlotLaws.{slots-leaf}
 use Rattle.sa_env.proofs.SpotLemmas.{values-spread, number-is, number-work}
 use Rattle.sa_env.proofs.slots.read_spot.Goals as goal
 
-pub returns-in_ok-push-in-Number-clause-slots : goal.returns-in_ok-push-in-Number-clause-slots
-returns-in_ok-push-in-Number-clause-slots c =
+pub returns-in_ok-push-in-Scalar-clause-slots : goal.returns-in_ok-push-in-Scalar-clause-slots
+returns-in_ok-push-in-Scalar-clause-slots c =
     let p = c.args.program.now.structs in
     let zs = c.args.values.now in
     let e = c.args.spot.now.elements in
@@ -19,13 +18,13 @@ returns-in_ok-push-in-Number-clause-slots c =
     let out = c.args.out.now.items in
     let is : c.leaf.result ∷ [] ≡ slots_in zs (base_layout p c.args.spot.now.base) e
     = ap (λ (s : Slot). s ∷ []) c.leaf.ensures
-    ∙ ap (λ (o : Option Span). slot c.in-Number.num e.starred (or_zero o) ∷ []) (values-spread zs e.at e.more)
-    ∙ sym (slots-leaf zs c.in-Number.num e)
-    ∙ ap (λ (l : Layout). slots_in zs l e) (sym (number-is p c.args.spot.now.base c.in-Number.num c.in-Number.is)) in
-    ap (λ (l : List Slot). l ++ todo) c.in_ok-push-in-Number.ensures.items ∙ append_assoc out (c.leaf.result ∷ []) todo
+    ∙ ap (λ (o : Option Span). slot c.in-Scalar.num e.starred (or_zero o) ∷ []) (values-spread zs e.at e.more)
+    ∙ sym (slots-leaf zs c.in-Scalar.num e)
+    ∙ ap (λ (l : Layout). slots_in zs l e) (sym (number-is p c.args.spot.now.base c.in-Scalar.num c.in-Scalar.is)) in
+    ap (λ (l : List Slot). l ++ todo) c.in_ok-push-in-Scalar.ensures.items ∙ append_assoc out (c.leaf.result ∷ []) todo
     ∙ ap (λ (l : List Slot). out ++ (l ++ todo)) is
 
-pub returns-in_ok-push-in-Number-clause-work : goal.returns-in_ok-push-in-Number-clause-work
-returns-in_ok-push-in-Number-clause-work c =
-    let w = ap work (number-is c.args.program.now.structs c.args.spot.now.base c.in-Number.num c.in-Number.is) ∙ number-work c.in-Number.num in
+pub returns-in_ok-push-in-Scalar-clause-work : goal.returns-in_ok-push-in-Scalar-clause-work
+returns-in_ok-push-in-Scalar-clause-work c =
+    let w = ap work (number-is c.args.program.now.structs c.args.spot.now.base c.in-Scalar.num c.in-Scalar.is) ∙ number-work c.in-Scalar.num in
     omega (arith, w)

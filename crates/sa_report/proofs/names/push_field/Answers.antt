@@ -52,4 +52,4 @@ returns c =
     let says = c.as_slice-extents.ensures ∙ row-is p c.args.k d c.args.ground.now.structs c.as_slice-2.result.now c.index-as_slice-k-2.result there c.requires.ground.structs c.as_slice-2.ensures c.index-as_slice-k-2.is in
     let inside = field-there p c.args.at c.args.k c.requires.at c.requires.shape d c.as_slice-extents.result.now there says f c.field_at-f.ensures in
     let at = field-is d f c.as_slice-3.result.now x c.as_slice-3.ensures inside c.index-as_slice-f.is in
-    next-field p c.args.at c.args.k c.requires.at c.requires.shape d c.as_slice-extents.result.now there says f c.field_at-f.ensures _ x at refl refl refl refl _ _ (c.in_ok-push_dot.ensures ∙ ap (λ (y : List ℕ). c.args.text.now.items ++ dot_text y) c.bytes.ensures)
+    next-field p c.args.at c.args.k c.requires.at c.requires.shape d c.as_slice-extents.result.now there says f c.field_at-f.ensures _ x at c.as_slice-4.ensures refl refl refl refl _ _ (c.in_ok-push_dot.ensures ∙ ap (λ (y : List ℕ). c.args.text.now.items ++ dot_text y) c.bytes.ensures)

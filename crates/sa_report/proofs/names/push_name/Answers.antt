@@ -12,7 +12,7 @@ push_steps-requires-clause-start c =
     let x = c.index-as_slice-spot.result in
     let there = var-there p s.var c.as_slice.result.now x c.requires.spot.var c.as_slice.ensures c.index-as_slice-spot.is in
     let cells = stretch-is p c.as_slice-2.result.now s.var _ (λ v. ap (λ (ss : List Stretch). slice_get ss v) c.as_slice-2.ensures ∙ c.requires.cells.ground.vars v) c.requires.spot.var in
-    begins-inside p s x _ c.requires.spot c.requires.cells.ground.few there refl c.len.ensures cells refl
+    begins-inside p s x _ c.requires.spot c.requires.cells.ground.few there c.as_slice-3.ensures refl c.len.ensures cells refl
 
 pub returns : goal.returns
 returns c =
@@ -22,5 +22,5 @@ returns c =
     let there = var-there p s.var c.as_slice.result.now x c.requires.spot.var c.as_slice.ensures c.index-as_slice-spot.is in
     let name : c.extend_from_slice.new.self.items ≡ c.args.text.now.items ++ x.name = search rules in
     on_ok_weaker c.push_steps.result
-    (λ h. begins-name p s x c.len.result there c.len.ensures c.args.text.now.items c.extend_from_slice.new.self.items c.push_place.new.text.items c.push_steps.new.text.items name c.in_ok-push_place.ensures h)
+    (λ h. begins-name p s x c.len.result c.as_slice-3.result.now there c.len.ensures c.as_slice-3.ensures c.args.text.now.items c.extend_from_slice.new.self.items c.push_place.new.text.items c.push_steps.new.text.items name c.in_ok-push_place.ensures h)
     c.push_steps.ensures

@@ -1,16 +1,12 @@
-use Rattle.std.proofs.Common.{◌∙◌, ◌++◌, List, ℕ, sym, ap, append-nil}
-use Rattle.sa_typed.specs.Layouts.{row}
-use Rattle.sa_typed.specs.declared.shape.Shape.{Shape}
-use Rattle.sa_env.specs.Sizes.{among}
-use Rattle.sa_env.proofs.StepLemmas.{array-layout}
-use Rattle.sa_report.proofs.InsideLemmas.{leaf-name}
+use Rattle.std.proofs.Common.{◌∙◌, ◌++◌, List, ℕ, sym, ap, append-nil, arith}
+use Rattle.std.proofs.lemmas.List.{nil_from_length}
+use Rattle.sa_report.proofs.InsideLemmas.{leaf-name, plain-inside}
 use Rattle.sa_report.proofs.names.push_step.Goals as goal
 
-pub push_element-requires-clause-array : goal.push_element-requires-clause-array
-push_element-requires-clause-array c =
-    ap (λ (t : Shape). among c.args.program.now.structs c.args.at.structs t) c.in-Array.is
-    ∙ array-layout c.args.program.now.structs c.args.at.structs c.in-Array.n c.in-Array.element
-    ∙ ap (λ (t : Shape). row c.in-Array.n (among c.args.program.now.structs c.args.at.structs t)) (sym c.get.ensures)
-
 pub returns-in-Scalar : goal.returns-in-Scalar
-returns-in-Scalar c = sym (ap (λ (x : List ℕ). c.args.text.now.items ++ x) (leaf-name c.args.program.now c.args.at _ c.in-Scalar.is) ∙ append-nil c.args.text.now.items)
+returns-in-Scalar c =
+    let p = c.args.program.now in
+    let i = c.args.at in
+    let none = c.in_default.len_below in
+    let whole = plain-inside p i _ (nil_from_length i.dims.now (omega (arith, none))) c.in-Scalar.is in
+    sym (ap (λ (x : List ℕ). c.args.text.now.items ++ x) (leaf-name p i c.in-Scalar.field-0 whole) ∙ append-nil c.args.text.now.items)

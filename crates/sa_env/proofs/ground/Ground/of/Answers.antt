@@ -11,8 +11,8 @@ use Rattle.sa_env.proofs.ground.Ground.of.Goals as goal
 pub stretches-requires-clause-table : goal.stretches-requires-clause-table
 stretches-requires-clause-table c = covers-all c.args.program.now.structs c.as_slice.result.now (c.as_slice.ensures ∙ c.in_ok-structs.ensures)
 
-pub bare_slots-requires : goal.bare_slots-requires
-bare_slots-requires c = covers-all c.args.program.now.structs c.as_slice-2.result.now (c.as_slice-2.ensures ∙ c.in_ok-structs.ensures)
+pub bare_slots-requires-clause-table : goal.bare_slots-requires-clause-table
+bare_slots-requires-clause-table c = covers-all c.args.program.now.structs c.as_slice-2.result.now (c.as_slice-2.ensures ∙ c.in_ok-structs.ensures)
 
 pub returns : goal.returns
 returns c = record {
@@ -21,4 +21,5 @@ returns c = record {
   starred = c.in_ok-stars.ensures ∙ ap (λ (l : List Slot). map (λ s. s.starred) l) (c.deref-2.ensures.value ∙ c.in_ok-slots.ensures) ∙ stars-are (cells c.args.program.now);
   vars = λ v. ap (λ (l : List Stretch). slice_get l v) c.in_ok-vars.ensures ∙ stretches-are c.args.program.now v;
   structs = c.in_ok-structs.ensures;
+  cores = c.in_ok-cores.ensures;
 }
