@@ -9,6 +9,7 @@ use crate::operators::as_span;
 use sa_base::{Alarm, Kind, Num, OutOfMemory, Pos};
 use sa_interval::Interval;
 use sa_typed::{Operator, Prefix};
+use std::alloc::Global;
 use std::process::Abort;
 use std::test::Fail;
 
@@ -86,6 +87,54 @@ fn kinds(rt: &impl Abort, alarms: &[Alarm]) -> Kinds {
         assert_eq!(rt; alarm.pos, AT);
     }
     [kind(alarms.get(0)), kind(alarms.get(1))]
+}
+
+/// What an operator makes of two intervals, and its alarms.
+fn operated(
+    rt: &impl Abort,
+    alloc: Global,
+    op: Operator,
+    num: Num,
+    a: Ends,
+    b: Ends,
+) -> Result<(Option<Ends>, Kinds), Fail> {
+    let a = operand(num, a).ok_or("no operand")?;
+    let b = operand(num, b).ok_or("no operand")?;
+    let mut alarms = Vec::new(alloc);
+    note_operator(true, op, AT, num, a, b, &mut alarms)?;
+    Ok((
+        ends(operator_span(op, num, a, b)),
+        kinds(rt, alarms.as_slice()),
+    ))
+}
+
+/// The same of an operator before its operand.
+fn prefixed(
+    rt: &impl Abort,
+    alloc: Global,
+    op: Prefix,
+    num: Num,
+    a: Ends,
+) -> Result<(Option<Ends>, Kinds), Fail> {
+    let a = operand(num, a).ok_or("no operand")?;
+    let mut alarms = Vec::new(alloc);
+    note_prefix(true, op, AT, num, a, &mut alarms)?;
+    Ok((ends(prefix_span(op, num, a)), kinds(rt, alarms.as_slice())))
+}
+
+/// The same of a conversion. In iteration it adds no alarm.
+fn converted(
+    rt: &impl Abort,
+    alloc: Global,
+    num: Num,
+    a: Ends,
+) -> Result<(Option<Ends>, Kinds), Fail> {
+    let a = interval(a).ok_or("no interval")?;
+    let mut alarms = Vec::new(alloc);
+    note_conversion(false, num, AT, a, &mut alarms)?;
+    assert_eq!(rt; alarms.len(), 0);
+    note_conversion(true, num, AT, a, &mut alarms)?;
+    Ok((ends(converted_span(num, a)), kinds(rt, alarms.as_slice())))
 }
 
 #[test]
@@ -244,16 +293,9 @@ fn sums_and_products(rt: HostRuntime) -> Result<(), Fail> {
             QUIET,
         ),
     ] {
-        let a = operand(num, a).ok_or("no operand")?;
-        let b = operand(num, b).ok_or("no operand")?;
-        assert_eq!(rt;
-            ends(operator_span(op, num, a, b)),
-            want,
-            "{op:?} in {num:?}"
-        );
-        let mut alarms = Vec::new(rt.alloc());
-        note_operator(true, op, AT, num, a, b, &mut alarms)?;
-        assert_eq!(rt; kinds(&rt, alarms.as_slice()), noted, "{op:?} in {num:?}");
+        let (span, alarms) = operated(&rt, rt.alloc(), op, num, a, b)?;
+        assert_eq!(rt; span, want, "{op:?} in {num:?}");
+        assert_eq!(rt; alarms, noted, "{op:?} in {num:?}");
     }
     Ok(())
 }
@@ -359,16 +401,9 @@ fn quotients_and_remainders(rt: HostRuntime) -> Result<(), Fail> {
             QUIET,
         ),
     ] {
-        let a = operand(num, a).ok_or("no operand")?;
-        let b = operand(num, b).ok_or("no operand")?;
-        assert_eq!(rt;
-            ends(operator_span(op, num, a, b)),
-            want,
-            "{op:?} in {num:?}"
-        );
-        let mut alarms = Vec::new(rt.alloc());
-        note_operator(true, op, AT, num, a, b, &mut alarms)?;
-        assert_eq!(rt; kinds(&rt, alarms.as_slice()), noted, "{op:?} in {num:?}");
+        let (span, alarms) = operated(&rt, rt.alloc(), op, num, a, b)?;
+        assert_eq!(rt; span, want, "{op:?} in {num:?}");
+        assert_eq!(rt; alarms, noted, "{op:?} in {num:?}");
     }
     Ok(())
 }
@@ -484,16 +519,9 @@ fn shifts(rt: HostRuntime) -> Result<(), Fail> {
             QUIET,
         ),
     ] {
-        let a = operand(num, a).ok_or("no operand")?;
-        let b = operand(num, b).ok_or("no operand")?;
-        assert_eq!(rt;
-            ends(operator_span(op, num, a, b)),
-            want,
-            "{op:?} in {num:?}"
-        );
-        let mut alarms = Vec::new(rt.alloc());
-        note_operator(true, op, AT, num, a, b, &mut alarms)?;
-        assert_eq!(rt; kinds(&rt, alarms.as_slice()), noted, "{op:?} in {num:?}");
+        let (span, alarms) = operated(&rt, rt.alloc(), op, num, a, b)?;
+        assert_eq!(rt; span, want, "{op:?} in {num:?}");
+        assert_eq!(rt; alarms, noted, "{op:?} in {num:?}");
     }
     Ok(())
 }
@@ -710,16 +738,9 @@ fn bitwise_and_comparisons(rt: HostRuntime) -> Result<(), Fail> {
             QUIET,
         ),
     ] {
-        let a = operand(num, a).ok_or("no operand")?;
-        let b = operand(num, b).ok_or("no operand")?;
-        assert_eq!(rt;
-            ends(operator_span(op, num, a, b)),
-            want,
-            "{op:?} in {num:?}"
-        );
-        let mut alarms = Vec::new(rt.alloc());
-        note_operator(true, op, AT, num, a, b, &mut alarms)?;
-        assert_eq!(rt; kinds(&rt, alarms.as_slice()), noted, "{op:?} in {num:?}");
+        let (span, alarms) = operated(&rt, rt.alloc(), op, num, a, b)?;
+        assert_eq!(rt; span, want, "{op:?} in {num:?}");
+        assert_eq!(rt; alarms, noted, "{op:?} in {num:?}");
     }
     Ok(())
 }
@@ -776,11 +797,9 @@ fn operators_before_operands(rt: HostRuntime) -> Result<(), Fail> {
         (Prefix::Not, Num::I32, (1, 5), Some((0, 0)), QUIET),
         (Prefix::Not, Num::I32, (-1, 1), Some((0, 1)), QUIET),
     ] {
-        let a = operand(num, a).ok_or("no operand")?;
-        assert_eq!(rt; ends(prefix_span(op, num, a)), want, "{op:?} in {num:?}");
-        let mut alarms = Vec::new(rt.alloc());
-        note_prefix(true, op, AT, num, a, &mut alarms)?;
-        assert_eq!(rt; kinds(&rt, alarms.as_slice()), noted, "{op:?} in {num:?}");
+        let (span, alarms) = prefixed(&rt, rt.alloc(), op, num, a)?;
+        assert_eq!(rt; span, want, "{op:?} in {num:?}");
+        assert_eq!(rt; alarms, noted, "{op:?} in {num:?}");
     }
     Ok(())
 }
@@ -814,17 +833,9 @@ fn conversions(rt: HostRuntime) -> Result<(), Fail> {
         ),
         (Num::U64, (-1, 0), Some((0, ULLONG_MAX)), QUIET),
     ] {
-        let a = interval(a).ok_or("no interval")?;
-        assert_eq!(rt; ends(converted_span(num, a)), want, "to {num:?}");
-        let mut alarms = Vec::new(rt.alloc());
-        note_conversion(true, num, AT, a, &mut alarms)?;
-        assert_eq!(rt; kinds(&rt, alarms.as_slice()), noted, "to {num:?}");
-        note_conversion(false, num, AT, a, &mut alarms)?;
-        assert_eq!(rt;
-            kinds(&rt, alarms.as_slice()),
-            noted,
-            "in iteration to {num:?}"
-        );
+        let (span, alarms) = converted(&rt, rt.alloc(), num, a)?;
+        assert_eq!(rt; span, want, "to {num:?}");
+        assert_eq!(rt; alarms, noted, "to {num:?}");
     }
     Ok(())
 }
