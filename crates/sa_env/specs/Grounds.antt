@@ -1,3 +1,4 @@
+-- No promise of the top calls rests on this page: it is for laws beside them, for proofs and for inner functions.
 -- What is fixed of a program during an analysis.
 use Rattle.std.specs.Prelude.{ℕ, ◌≡◌, ◌≤◌, List, [], ◌∷◌, Bool, length, reverse, slice_get}
 use Rattle.sa_typed.specs.Cells.{Cell, cells, is_starred}

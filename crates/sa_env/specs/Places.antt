@@ -1,3 +1,4 @@
+-- No promise of the top calls rests on this page: it is for laws beside them, for proofs and for inner functions.
 -- What the steps of an access have led to so far.
 use Rattle.std.specs.Prelude.{ℕ, ◌+◌, ◌≡◌, ◌≤◌, ◌<◌, ℤ, pos, List, [], ◌∷◌, length, Option, MatchOption, nat_le, nat_lt}
 use Rattle.std.specs.Int.RustNames.{int_le}

@@ -1,3 +1,4 @@
+-- No promise of the top calls rests on this page: it is for laws beside them, for proofs and for inner functions.
 -- The cells that an access names, by where they stand: the numbers of what the steps have led to so far, which each step
 -- multiplies or moves on.
 use Rattle.std.specs.Prelude.{ℕ, zero, suc, ◌+◌, pos, List, [], ◌∷◌, ◌++◌, map, Bool, ◌&&◌, if◌then◌else◌, nat_le}

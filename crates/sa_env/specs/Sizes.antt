@@ -1,3 +1,4 @@
+-- No promise of the top calls rests on this page: it is for laws beside them, for proofs and for inner functions.
 -- How many cells and elements there are, and where those of fields and variables begin. In code these numbers stop at the
 -- greatest of a machine word, since structures that no variable has may be of any size.
 use Rattle.std.specs.Prelude.{ℕ, zero, suc, ◌+◌, ◌-◌, ◌^◌, ◌≡◌, ◌<◌, ◌≤◌, List, [], ◌∷◌, ◌++◌, length, take, reverse, min, slice_get, Option, Some, option_map, if◌then◌else◌, nat_le}

@@ -1,3 +1,4 @@
+-- No promise of the top calls rests on this page: it is for laws beside them, for proofs and for inner functions.
 -- The cells within an object, with the initial values of the elements that they stand for: which elements those are is kept as
 -- their numbers as far as they have initial values, and whether there are others, which begin with 0 alone.
 use Rattle.std.specs.Prelude.{ℕ, zero, suc, ◌+◌, ◌*◌, ℤ, pos, List, [], ◌∷◌, ◌++◌, map, length, get_or, Bool, true, false, ◌||◌, not, if◌then◌else◌, nat_lt, Option, Some, None}

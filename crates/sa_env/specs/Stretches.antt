@@ -1,3 +1,4 @@
+-- No promise of the top calls rests on this page: it is for laws beside them, for proofs and for inner functions.
 -- What is fixed of variables and cells, in their order.
 use Rattle.std.specs.Prelude.{ℕ, suc, ◌+◌, pos, List, [], ◌∷◌, length, take, map, Bool}
 use Rattle.sa_interval.specs.Rows.{single}

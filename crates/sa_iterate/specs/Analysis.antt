@@ -1,3 +1,4 @@
+-- No promise of the top calls rests on this page: it is for laws beside them, for proofs and for inner functions.
 -- What the code keeps of an analysis, as the reference states it.
 use Rattle.std.specs.Prelude.{List, [], map, Option, Some, None, slice_get}
 use Rattle.sa_typed.specs.declared.program.Func.{Func}

@@ -1,3 +1,4 @@
+-- No promise of the top calls rests on this page: it is for laws beside them, for proofs and for inner functions.
 -- Rows of statements over the interval domain, from an environment that may be dead: one environment goes from statement to
 -- statement. `StraightLaws` ties this to the lists of environments that a block keeps, which here hold one at most.
 use Rattle.std.specs.Prelude.{List, [], ◌∷◌, Bool, true, false, Option, Some, None}

@@ -1,4 +1,4 @@
--- For proofs and inner functions: no promise of the top calls rests on this page.
+-- No promise of the top calls rests on this page: it is for laws beside them, for proofs and for inner functions.
 -- Halves rounded down, as `>> 1` rounds them, and even bounds.
 use Rattle.std.specs.Prelude.{ℤ, ◌+ℤ◌}
 use Rattle.std.specs.Int.{int_shr}

@@ -1,3 +1,4 @@
+-- No promise of the top calls rests on this page: it is for laws beside them, for proofs and for inner functions.
 -- What operators and conversions on spans cover, and that their spans stay in their types.
 use Rattle.std.specs.Prelude.{ℤ, ◌≡◌, ◌≤ℤ◌, List, Option, false, IsSomeAnd, IfSome, Result, Ok, Err}
 use Rattle.sa_base.specs.declared.num.Num.{Num}

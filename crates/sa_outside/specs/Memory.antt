@@ -1,4 +1,4 @@
--- For proofs and inner functions: no promise of the top calls rests on this page.
+-- No promise of the top calls rests on this page: it is for laws beside them, for proofs and for inner functions.
 -- The shelf and the sinks in memory, as contracts see them.
 use Rattle.std.specs.Prelude.{ℕ, ◌+◌, ◌-◌, ◌^◌, ◌==◌, min, List, [], ◌∷◌, ◌++◌, length, take, Bool, ◌||◌, Vec, Option, Some, None, if◌then◌else◌, is_none}
 use Rattle.std.specs.List.{list_any}

@@ -1,4 +1,4 @@
--- For proofs and inner functions: no promise of the top calls rests on this page.
+-- No promise of the top calls rests on this page: it is for laws beside them, for proofs and for inner functions.
 -- What the answer of a read says.
 use Rattle.std.specs.Prelude.{ℕ, ◌≡◌, ◌<◌, ◌≤◌, ◌↔◌, List, [], length, take, Bool, Option, Some, None, Result, Ok, Err, IsTrue, IsSomeAnd, IfSome}
 use Rattle.sa_outside.specs.declared.shelf.ShelfError.{ShelfError}

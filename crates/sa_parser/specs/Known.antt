@@ -1,3 +1,4 @@
+-- No promise of the top calls rests on this page: it is for laws beside them, for proofs and for inner functions.
 -- What a set of names has.
 use Rattle.std.specs.Prelude.{ℕ, ◌≡◌, List, Bool, Vec}
 use Rattle.std.specs.Ordering.{nat_cmp}

@@ -1,3 +1,4 @@
+-- No promise of the top calls rests on this page: it is for laws beside them, for proofs and for inner functions.
 -- What a function of the parser ensures: the reader's answer, unless memory lacks.
 use Rattle.std.specs.Prelude.{◌≡◌, ◌≢◌, Result, Ok, Err, List}
 use Rattle.sa_tokens.specs.declared.token.Token.{Token}

@@ -1,4 +1,4 @@
--- For proofs and inner functions: no promise of the top calls rests on this page.
+-- No promise of the top calls rests on this page: it is for laws beside them, for proofs and for inner functions.
 -- What is read of a reader that tells its bytes.
 use Rattle.std.specs.Prelude.{ℕ, List, Option, Some, None, Result}
 use Rattle.sa_outside.specs.declared.shelf.ShelfError.{ShelfError}

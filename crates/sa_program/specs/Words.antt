@@ -1,4 +1,4 @@
--- For proofs and inner functions: no promise of the top calls rests on this page.
+-- No promise of the top calls rests on this page: it is for laws beside them, for proofs and for inner functions.
 -- What the exit status tells where there were no words for want of memory.
 use Rattle.std.specs.Prelude.{Result, Ok, Err}
 use Rattle.sa_base.specs.declared.status.Status.{Status}

@@ -1,3 +1,4 @@
+-- No promise of the top calls rests on this page: it is for laws beside them, for proofs and for inner functions.
 -- Environments as the passes keep them: the clock is one that may be, and each cell's span lies in its type.
 use Rattle.std.specs.Prelude.{ℤ, ◌≤ℤ◌, List, [], ◌∷◌, Bool, true, false, Option, Some, None}
 use Rattle.sa_interval.specs.Span.{Span, IsPart}

@@ -1,3 +1,4 @@
+-- No promise of the top calls rests on this page: it is for laws beside them, for proofs and for inner functions.
 -- What the code keeps of loops: one record for all that stand at a place, and the marks and the texts of lists of statements.
 use Rattle.std.specs.Prelude.{ℕ, List, [], ◌∷◌, ◌++◌, Bool, false, if◌then◌else◌, length, replicate, max, Option, Some, None}
 use Rattle.sa_base.specs.declared.pos.Pos.{Pos}

@@ -1,3 +1,4 @@
+-- No promise of the top calls rests on this page: it is for laws beside them, for proofs and for inner functions.
 -- Marks for the cells that occur, one for each cell: what each part of a program adds to them, with its rows as lists, as code
 -- goes over them. `proofs/MarkLaws.antt` ties this to the rows of a tree.
 use Rattle.std.specs.Prelude.{ℕ, pos, ◌-ℤ◌, List, [], ◌∷◌, Bool, ◌||◌, if◌then◌else◌, length, Option, Some, option_map, nat_lt, set, true}

@@ -1,3 +1,4 @@
+-- No promise of the top calls rests on this page: it is for laws beside them, for proofs and for inner functions.
 -- Where cells stand: the variable of each and its number there, in the cells' order, and the name of a cell that stands there.
 use Rattle.std.specs.Prelude.{ℕ, zero, suc, ◌+◌, ◌-◌, ◌/◌, ◌%◌, ◌≡◌, ◌≤◌, ◌<◌, List, [], ◌∷◌, ◌++◌, length, get_or, codes, Bool, if◌then◌else◌, nat_le, nat_lt, slice_get, Option, MatchOption}
 use Rattle.std.specs.Fmt.{decimal}

@@ -1,3 +1,4 @@
+-- No promise of the top calls rests on this page: it is for laws beside them, for proofs and for inner functions.
 -- What the grammar of expressions and types has is what the reader reads, whatever follows, as long as it does not go on.
 use Rattle.std.specs.Prelude.{ℕ, ◌≡◌, List, false, None}
 use Rattle.sa_tokens.specs.declared.punct.Punct.TheVariants as m

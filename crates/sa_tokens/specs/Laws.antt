@@ -1,3 +1,4 @@
+-- No promise of the top calls rests on this page: it is for laws beside them, for proofs and for inner functions.
 -- What the definitions of this crate give together.
 use Rattle.std.specs.Prelude.{ℕ, ◌+◌, ◌<◌, ◌≤◌, ◌≡◌, ◌↔◌, ◌⊎◌, ◌==◌, not, count_by, All, List, ◌∷◌, Bool, true, false, codes, take, drop, length, Option, Some}
 use Rattle.std.specs.List.{list_all, suffix_len}

@@ -1,3 +1,4 @@
+-- No promise of the top calls rests on this page: it is for laws beside them, for proofs and for inner functions.
 -- Why a source has no program, and what that says of it.
 use Rattle.std.specs.Prelude.{ℕ, List, ⊤}
 use Rattle.sa_base.specs.declared.refusal.Code.TheVariants as code

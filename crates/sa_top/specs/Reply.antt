@@ -1,3 +1,4 @@
+-- No promise of the top calls rests on this page: it is for laws beside them, for proofs and for inner functions.
 -- A reply to the words: its status and its text are those of the answer, for some content of the named file.
 use Rattle.std.specs.Prelude.{ℕ, ◌≡◌, ◌≢◌, List, Option, Some, None, Result, Ok, Err, IfOk}
 use Rattle.sa_base.specs.declared.status.Status.TheVariants as s

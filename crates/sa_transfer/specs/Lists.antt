@@ -1,3 +1,4 @@
+-- No promise of the top calls rests on this page: it is for laws beside them, for proofs and for inner functions.
 -- Links, steps and cells as lists, as code goes over them. `proofs/` ties this to the rows of a tree.
 use Rattle.std.specs.Prelude.{ℕ, ◌≡◌, List, [], ◌∷◌, ◌++◌, Bool, true, if◌then◌else◌, slice_get, Option, Some, None, option_map}
 use Rattle.std.specs.List.{All}

@@ -1,3 +1,4 @@
+-- No promise of the top calls rests on this page: it is for laws beside them, for proofs and for inner functions.
 -- Links as lists, as code sees them: what typing promises of them, and what constant ones make of a value.
 -- `proofs/LinkLaws.antt` ties this to the rows of a tree.
 use Rattle.std.specs.Prelude.{ℤ, List, [], ◌∷◌, Bool, true, ◌&&◌, Result, IfOk}
