@@ -38,7 +38,7 @@ qualified_ahead : (o : Option Qualifier) (t : Token) (r s : List Token) → read
 qualified_ahead None t r s = refl
 qualified_ahead (Some q) t r s = refl
 
-qualifier_fine : Fine 1 read.qualifier
+pub qualifier_fine : Fine 1 read.qualifier
 unfolding read.qualifier key_at
 qualifier_fine = fine_taken (λ ts. read.qualified_at (read.qualifier_in (key_at ts)) ts) (λ t r s. qualified_ahead (read.qualifier_in (key_at (t ∷ r))) t r s) refl
 

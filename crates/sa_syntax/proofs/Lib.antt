@@ -25,4 +25,6 @@ pub mod ClosingExpr
 pub mod ClosingStmt
 pub mod ClosingBodies
 pub mod ClosingUnit
+pub mod EndsLemmas
+pub mod EndsExpr
 pub mod Samples
