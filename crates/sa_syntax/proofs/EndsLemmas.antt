@@ -252,18 +252,22 @@ one_more : (X : ℕ → Type 0) (n : ℕ) → ((m : ℕ) → n ≤ suc m → X (
 one_more X n go zero l k = absurd (omega (arith, k))
 one_more X n go (suc m) l k = go m l
 
--- a mark that opens one more; the text `d` behind it ends what it opens
-pub opens_then : {B : Type 0} {G : ℕ → List Token → B → List Token → Type 0} {S : ℕ → List Token → List Token → Type 0} (f : ℕ → Pos → Parser B) (n : ℕ) (mk : Punct) (ts d : List Token) → ((m : ℕ) (rest : List Token) → S (suc m) (close mk ∷ (d ++ rest)) rest)
+-- a mark that opens one more; the text `d` behind it ends what it opens, with that much room inside
+pub opens_from : {B : Type 0} {G : ℕ → List Token → B → List Token → Type 0} {S : ℕ → List Token → List Token → Type 0} (k : ℕ) (f : ℕ → Pos → Parser B) (n : ℕ) (mk : Punct) (ts d : List Token) → ((m : ℕ) (rest : List Token) → k ≤ m → S (suc m) (close mk ∷ (d ++ rest)) rest)
     → ((i : ℕ) → n ≡ suc i → (p : Pos) (us : List Token) → Ends i (λ m vs c ws. G (suc m) (mark mk p ∷ vs) c ws) (λ m vs rest. S (suc m) (mark mk p ∷ vs) rest) us (f (suc i) p us)) → Ends n G S ts (and_then (opens n mk ts) (f n))
 unfolding opens
-opens_then {G = G} {S} f n mk ts d shut go = by_test (sees mk ts) refl
+opens_from {G = G} {S} k f n mk ts d shut go = by_test (sees mk ts) refl
   where
     by_mark : (ts : List Token) (p : Pos) (us : List Token) → Marked mk ts p us → Ends n G S ts (and_then (opens_any n ts) (f n))
     by_mark _ p us Marked.marked = opens_any_then {G = G} {S = S} f n (mark mk p) us (λ i h. go i h p us)
 
     by_test : (x : Bool) → sees mk ts ≡ x → Ends n G S ts (and_then (cond x (opens_any n ts) (Stuck ts)) (f n))
     by_test true h = let x = sees_is mk ts h in by_mark ts (x.0) (after ts) (x.1)
-    by_test false h = Ends.stuck [] (close mk) d (suc n) refl (refl, refl) (omega arith) (λ m rest k. one_more (λ m. S m (close mk ∷ (d ++ rest)) rest) n (λ m l. shut m rest) m (omega (arith, k)) (omega (arith, k)))
+    by_test false h = Ends.stuck [] (close mk) d (suc (n + k)) refl (refl, refl) (omega arith) (λ m rest l. one_more (λ m. S m (close mk ∷ (d ++ rest)) rest) (suc k) (λ m l. shut m rest (omega (arith, l))) m (omega (arith, l)) (omega (arith, l)))
+
+pub opens_then : {B : Type 0} {G : ℕ → List Token → B → List Token → Type 0} {S : ℕ → List Token → List Token → Type 0} (f : ℕ → Pos → Parser B) (n : ℕ) (mk : Punct) (ts d : List Token) → ((m : ℕ) (rest : List Token) → S (suc m) (close mk ∷ (d ++ rest)) rest)
+    → ((i : ℕ) → n ≡ suc i → (p : Pos) (us : List Token) → Ends i (λ m vs c ws. G (suc m) (mark mk p ∷ vs) c ws) (λ m vs rest. S (suc m) (mark mk p ∷ vs) rest) us (f (suc i) p us)) → Ends n G S ts (and_then (opens n mk ts) (f n))
+opens_then f n mk ts d shut go = opens_from 0 f n mk ts d (λ m rest l. shut m rest) go
 
 -- ---- the place of the first token, where one is taken
 same_place : (c : Token) (b ts us vs : List Token) → ts ≡ c ∷ b ++ us → pos_of (c ∷ b ++ vs) ≡ pos_of ts
@@ -284,7 +288,7 @@ Front {A} Star m ts x us = (xs : List A) (vs : List Token) → Star m us xs vs �
 abbrev pub Found : {A : Type 0} → List A → (ℕ → List Token → List A → List Token → Type 0) → ℕ → List Token → List A → List Token → Type 0
 Found {A} found Star m ts a us = (xs : List A) × (a ≡ found ++ xs) × Star m ts xs us
 
-found_next : {A : Type 0} (found : List A) (x : A) (xs a : List A) → a ≡ (found ++ x ∷ []) ++ xs → a ≡ found ++ x ∷ xs
+pub found_next : {A : Type 0} (found : List A) (x : A) (xs a : List A) → a ≡ (found ++ x ∷ []) ++ xs → a ≡ found ++ x ∷ xs
 found_next found x xs a e = e ∙ append_assoc found (x ∷ []) xs
 
 append_none : {A : Type 0} (xs : List A) → xs ++ [] ≡ xs
@@ -294,19 +298,25 @@ append_none (x ∷ xs) = ap (λ z. x ∷ z) (append_none xs)
 pub found_none : {A : Type 0} {n : ℕ} {Star : ℕ → List Token → List A → List Token → Type 0} {S : ℕ → List Token → List Token → Type 0} {ts : List Token} {x : Read (List A)} → Ends n (Found [] Star) S ts x → Ends n Star S ts x
 found_none {Star = Star} one = ends_map (λ m us a vs g. subst (λ z. Star m us z vs) (sym (g.1)) (g.2)) (λ m us vs s. s) one
 
-while_ends : {A : Type 0} (n : ℕ) (Star : ℕ → List Token → List A → List Token → Type 0) (goes : List Token → Bool) (item : Parser A) → Fine 1 item → ((m : ℕ) (us vs : List Token) → goes us ≡ false → Follows us vs → Star m vs [] vs)
-    → ((ts : List Token) → goes ts ≡ true → Ends n (Front Star) (Some' Star) ts (item ts)) → (left : ℕ) (found : List A) (ts : List Token) → length ts < left → Ends n (Found found Star) (Some' Star) ts (while_from goes item left found ts)
+while_ends : {A : Type 0} (n : ℕ) (Star : ℕ → List Token → List A → List Token → Type 0) (T : ℕ → List Token → List Token → Type 0) (goes : List Token → Bool) (item : Parser A) → Fine 1 item → ((m : ℕ) (us vs : List Token) → goes us ≡ false → Follows us vs → Star m vs [] vs)
+    → ((m : ℕ) (ts : List Token) (x : A) (us rest : List Token) → Front Star m ts x us → T m us rest → T m ts rest)
+    → ((ts : List Token) → goes ts ≡ true → Ends n (Front Star) T ts (item ts)) → (left : ℕ) (found : List A) (ts : List Token) → length ts < left → Ends n (Found found Star) T ts (while_from goes item left found ts)
 unfolding while_from
-while_ends n Star goes item fine none each zero found ts h = absurd (omega (arith, h))
-while_ends n Star goes item fine none each (suc left) found ts h = ends_if (goes ts)
+while_ends n Star T goes item fine none next each zero found ts h = absurd (omega (arith, h))
+while_ends n Star T goes item fine none next each (suc left) found ts h = ends_if (goes ts)
     (λ g. seq_with (each ts g) [] (λ m ss rest l s. s) (λ x us e l i.
     let k = shorter (subst (λ z. Shrinks 1 ts z) e (fine.shrinks ts)) in
-    ends_map (λ m vs a ws go ss j. (x ∷ (go.0), found_next found x (go.0) a (go.1), j (go.0) ws (go.2))) (λ m vs rest go ss j. (x ∷ (go.0), j (go.0) rest (go.1))) (while_ends n Star goes item fine none each left (found ++ x ∷ []) us (omega (arith, k, h)))))
+    ends_map (λ m vs a ws go ss j. (x ∷ (go.0), found_next found x (go.0) a (go.1), j (go.0) ws (go.2))) (λ m vs rest go ss j. next m ss x vs rest j go) (while_ends n Star T goes item fine none next each left (found ++ x ∷ []) us (omega (arith, k, h)))))
     (λ g. done (λ m vs l o. ([], sym (append_none found), none m ts vs g o)))
+
+pub many_to : {A : Type 0} (n : ℕ) (Star : ℕ → List Token → List A → List Token → Type 0) (T : ℕ → List Token → List Token → Type 0) (goes : List Token → Bool) (item : Parser A) → Fine 1 item → ((m : ℕ) (us vs : List Token) → goes us ≡ false → Follows us vs → Star m vs [] vs)
+    → ((m : ℕ) (ts : List Token) (x : A) (us rest : List Token) → Front Star m ts x us → T m us rest → T m ts rest)
+    → ((ts : List Token) → goes ts ≡ true → Ends n (Front Star) T ts (item ts)) → (ts : List Token) → Ends n Star T ts (many goes item ts)
+many_to n Star T goes item fine none next each ts = found_none (while_ends n Star T goes item fine none next each (turns ts) [] ts (omega arith))
 
 pub many_ends : {A : Type 0} (n : ℕ) (Star : ℕ → List Token → List A → List Token → Type 0) (goes : List Token → Bool) (item : Parser A) → Fine 1 item → ((m : ℕ) (us vs : List Token) → goes us ≡ false → Follows us vs → Star m vs [] vs)
     → ((ts : List Token) → goes ts ≡ true → Ends n (Front Star) (Some' Star) ts (item ts)) → (ts : List Token) → Ends n Star (Some' Star) ts (many goes item ts)
-many_ends n Star goes item fine none each ts = found_none (while_ends n Star goes item fine none each (turns ts) [] ts (omega arith))
+many_ends n Star goes item fine none each ts = many_to n Star (Some' Star) goes item fine none (λ m ss x us rest j s. (x ∷ s.0, j (s.0) rest (s.1))) each ts
 
 -- with a mark after each
 after_shorter : (mk : Punct) (us : List Token) → sees mk us ≡ true → length (after us) < length us

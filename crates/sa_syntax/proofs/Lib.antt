@@ -27,4 +27,5 @@ pub mod ClosingBodies
 pub mod ClosingUnit
 pub mod EndsLemmas
 pub mod EndsExpr
+pub mod EndsStmt
 pub mod Samples
