@@ -353,7 +353,7 @@ name_close p q o (Number v u l d) x rest h = cc
 name_close p q o (Key j) x rest h = cc
 name_close p q o (Mark j) x rest h = cc
 
-both_true : (x y : Bool) → x && y ≡ true → (x ≡ true) × (y ≡ true)
+pub both_true : (x y : Bool) → x && y ≡ true → (x ≡ true) × (y ≡ true)
 both_true true true h = (refl, refl)
 both_true true false h = cc
 both_true false y h = cc

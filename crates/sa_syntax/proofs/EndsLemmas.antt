@@ -219,7 +219,7 @@ pub seen_then : {A : Type 0} {n : ℕ} {G : ℕ → List Token → A → List To
 seen_then mk f ts h go = let x = sees_is mk ts h in front_mark mk f ts (x.0) (after ts) (x.1) (λ p. go p (after ts) refl)
 
 -- ---- opening tokens
-shifted : {A : Type 0} {G : ℕ → List Token → A → List Token → Type 0} {S : ℕ → List Token → List Token → Type 0} (i : ℕ) (us : List Token) {y : Read A} → Ends i (λ m vs c ws. G (suc m) vs c ws) (λ m vs rest. S (suc m) vs rest) us y → Ends (suc i) G S us y
+pub shifted : {A : Type 0} {G : ℕ → List Token → A → List Token → Type 0} {S : ℕ → List Token → List Token → Type 0} (i : ℕ) (us : List Token) {y : Read A} → Ends i (λ m vs c ws. G (suc m) vs c ws) (λ m vs rest. S (suc m) vs rest) us y → Ends (suc i) G S us y
 shifted {G = G} i us (Ends.got {a} {us = rest} b e w) = Ends.got b e roomy
   where
     roomy : (m : ℕ) (vs : List Token) → suc i ≤ m → Follows rest vs → G m (b ++ vs) a vs

@@ -183,7 +183,7 @@ module _ (ns : Names) (n : ℕ) where
       (λ h. turned_by star x (mark_at ts) ts refl)
 
 -- what a place takes has the first token
-star_same : (b us vs ts : List Token) → ts ≡ b ++ us → length us < length ts → begins_with_star (b ++ vs) ≡ begins_with_star ts
+pub star_same : (b us vs ts : List Token) → ts ≡ b ++ us → length us < length ts → begins_with_star (b ++ vs) ≡ begins_with_star ts
 star_same [] us vs ts e h = let n : length ts ≡ length us = ap length e in absurd (omega (arith, n, h))
 star_same (c ∷ b) us vs ts e h = sym (ap begins_with_star e)
 

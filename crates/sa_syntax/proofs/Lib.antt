@@ -28,4 +28,5 @@ pub mod ClosingUnit
 pub mod EndsLemmas
 pub mod EndsExpr
 pub mod EndsStmt
+pub mod EndsBodies
 pub mod Samples
