@@ -252,3 +252,70 @@ module _ (ns : Names) (n : ℕ) (inner : Inner ns n) where
   pub stmt_ends : (ts : List Token) → Ends n (Stmt' ns) (Some' (Stmt' ns)) ts (read.stmt ns n bodies ts)
   unfolding read.stmt
   stmt_ends ts = stmt_by_ends (key_at ts) ts refl
+
+-- ---- what stands in braces
+nested_front : (ns : Names) (r : ℕ) (ts : List Token) (a : Stmt) (us : List Token) → Within (Stmt' ns) r ts a us → Front (Nested ns) r ts (item.Stmt a) us
+nested_front ns zero ts a us i is vs go = absurd i
+nested_front ns (suc r) ts a us i is vs go = Nested.nested_stmt i go
+
+body_front : (ns : Names) (r : ℕ) (ts : List Token) (a : Stmt) (us : List Token) → Within (Stmt' ns) r ts a us → Front (Body ns) r ts a us
+body_front ns zero ts a us i ss vs go = absurd i
+body_front ns (suc r) ts a us i ss vs go = Body.stmt i go
+
+module _ (ns : Names) (n : ℕ) (inner : Inner ns n) where
+  nested_item_ends : (ts : List Token) → Ends n (Front (Nested ns)) (Some' (Nested ns)) ts (read.block_item ns n (read.bodies ns n) (read.bodies ns n).stmt ts)
+  unfolding read.block_item
+  nested_item_ends ts = ends_if (begins_type ns ts)
+      (λ h. seq (ends.local_ends ns n ts) [] (λ r ss z l e. (item.Local (e.0) ∷ [], Nested.nested_local (e.1) Nested.no_item)) (λ x us. done (λ r zs l f ss e is vs go. Nested.nested_local e go)))
+      (λ h. seq (inner.stmt ts) [] (λ r ss z l e. (item.Stmt (e.0) ∷ [], nested_front ns r ss (e.0) z (e.1) [] z Nested.no_item)) (λ a us. done (λ r zs l f ss e. nested_front ns r ss a zs e)))
+
+  nested_ends : (ts : List Token) → Ends n (Nested ns) (Some' (Nested ns)) ts (read.block_items ns n (read.bodies ns n) (read.bodies ns n).stmt ts)
+  unfolding read.block_items
+  nested_ends ts = many_ends n (Nested ns) read.no_close (read.block_item ns n (read.bodies ns n) (read.bodies ns n).stmt) (fine.block_item_fine ns n (read.bodies ns n) (bodies_fine ns n) (read.bodies ns n).stmt (bodies_fine ns n).stmt)
+      (λ r us vs h f. Nested.no_item) (λ us h. nested_item_ends us) ts
+
+  stmts_ends : (ts : List Token) → Ends n (Body ns) (Some' (Body ns)) ts (many (read.goes_on ns n (read.bodies ns n)) (read.bodies ns n).stmt ts)
+  stmts_ends ts = many_ends n (Body ns) (read.goes_on ns n (read.bodies ns n)) (read.bodies ns n).stmt (bodies_fine ns n).stmt (λ r us vs h f. Body.no_stmt)
+      (λ us h. ends_map (λ r us a vs i. body_front ns r us a vs i) (λ r us z e. (e.0 ∷ [], body_front ns r us (e.0) z (e.1) [] z Body.no_stmt)) (inner.stmt us)) ts
+
+  more_labels_ends : (ts : List Token) → Ends n (λ r ts ls us. sound.MoreLabels ns r ts ls us) (λ r ts z. (ls : List Label) × (begins_with_label z ≡ false → sound.MoreLabels ns r ts ls z)) ts (many begins_with_label (read.a_label ns n) ts)
+  more_labels_ends ts = many_to n (λ r ts ls us. sound.MoreLabels ns r ts ls us) (λ r ts z. (ls : List Label) × (begins_with_label z ≡ false → sound.MoreLabels ns r ts ls z)) begins_with_label (read.a_label ns n) (fine.a_label_fine ns n)
+      (λ r us vs h f ss l i. Labels.last_label i (f.no_label h)) (λ r ts x us z j t. (x ∷ t.0, λ h. j (t.0) z (t.1 h)))
+      (λ us h. ends_map (λ r us l vs i xs ws go ss x j. Labels.next_label j (go us l i)) (λ r us z e. (e.0 ∷ [], λ g ss x j. Labels.next_label j (Labels.last_label (e.1) g))) (ends.label_ends ns n us h)) ts
+
+  a_group_ends : (ts : List Token) → begins_with_label ts ≡ true → Ends n (Front (Groups ns)) (Some' (EndedGroups ns)) ts (read.a_group ns n (read.bodies ns n) ts)
+  unfolding read.a_group
+  a_group_ends ts h = seq (ends.label_ends ns n ts h) [] (λ r ss z l e. (tree.group (e.0 ∷ []) [] ∷ [], λ g. Groups.group (Labels.last_label (e.1) g) Body.no_stmt Groups.no_group)) (λ x us.
+      seq (more_labels_ends us) [] (λ r vs z l e ss i. (tree.group (x ∷ e.0) [] ∷ [], λ g. Groups.group (e.1 g ss x i) Body.no_stmt Groups.no_group)) (λ ls vs.
+      seq (stmts_ends vs) [] (λ r ws z l b us j ss i. (tree.group (x ∷ ls) (b.0) ∷ [], λ g. Groups.group (j ss x i) (b.1) Groups.no_group)) (λ bs ws. done (λ r zs l f vs b us j ss i gs ys go. Groups.group (j ss x i) b go))))
+
+  groups_ends : (ts : List Token) → Ends n (Groups ns) (Some' (EndedGroups ns)) ts (read.groups ns n (read.bodies ns n) ts)
+  unfolding read.groups
+  groups_ends ts = many_to n (Groups ns) (Some' (EndedGroups ns)) begins_with_label (read.a_group ns n (read.bodies ns n)) (fine.a_group_fine ns n (read.bodies ns n) (bodies_fine ns n))
+      (λ r us vs h f. Groups.no_group) (λ r ts x us z j t. (x ∷ t.0, λ h. j (t.0) z (t.1 h))) a_group_ends ts
+
+at_room : (ns : Names) (n : ℕ) → Inner ns n → Inner ns (suc n)
+unfolding read.bodies
+at_room ns n below = record {
+  stmt = λ ts. shifted {G = Within (Stmt' ns)} {S = Some' (Within (Stmt' ns))} n ts (stmt_ends ns n below ts);
+  one = λ i h ts. let same : n ≡ i = omega (arith, h) in subst (λ i. Ends i (Stmt' ns) (Some' (Stmt' ns)) ts (read.stmt_at ns i ts)) same (stmt_ends ns n below ts);
+  items = λ i h ts. let same : n ≡ i = omega (arith, h) in subst (λ i. Ends i (Nested ns) (Some' (Nested ns)) ts ((read.bodies ns (suc i)).items ts)) same (nested_ends ns n below ts);
+  groups = λ i h ts. let same : n ≡ i = omega (arith, h) in subst (λ i. Ends i (Groups ns) (Some' (EndedGroups ns)) ts ((read.bodies ns (suc i)).groups ts)) same (groups_ends ns n below ts);
+}
+
+pub inner_ends : (ns : Names) (n : ℕ) → Inner ns n
+unfolding read.bodies
+inner_ends ns zero = record { stmt = no_stmt_ends ns; one = λ i h. cc; items = λ i h. cc; groups = λ i h. cc }
+inner_ends ns (suc n) = at_room ns n (inner_ends ns n)
+
+-- in the braces of a function
+outer_item_ends : (ns : Names) (n : ℕ) (ts : List Token) → Ends n (Front (Outermost ns)) (Some' (Outermost ns)) ts (read.block_item ns n (read.bodies ns n) (read.stmt_at ns n) ts)
+unfolding read.block_item
+outer_item_ends ns n ts = ends_if (begins_type ns ts)
+    (λ h. seq (ends.local_ends ns n ts) [] (λ r ss z l e. (item.Local (e.0) ∷ [], Outermost.local_item (e.1) Outermost.no_item)) (λ x us. done (λ r zs l f ss e is vs go. Outermost.local_item e go)))
+    (λ h. seq (stmt_ends ns n (inner_ends ns n) ts) [] (λ r ss z l e. (item.Stmt (e.0) ∷ [], Outermost.stmt_item (e.1) Outermost.no_item)) (λ a us. done (λ r zs l f ss e is vs go. Outermost.stmt_item e go)))
+
+pub outermost_ends : (ns : Names) (n : ℕ) (ts : List Token) → Ends n (Outermost ns) (Some' (Outermost ns)) ts (read.outermost ns n ts)
+unfolding read.outermost read.block_items
+outermost_ends ns n ts = many_ends n (Outermost ns) read.no_close (read.block_item ns n (read.bodies ns n) (read.stmt_at ns n)) (fine.block_item_fine ns n (read.bodies ns n) (bodies_fine ns n) (read.stmt_at ns n) (fine.stmt_fine ns n (read.bodies ns n) (bodies_fine ns n)))
+    (λ r us vs h f. Outermost.no_item) (λ us h. outer_item_ends ns n us) ts
