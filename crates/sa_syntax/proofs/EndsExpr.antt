@@ -294,10 +294,10 @@ record StarOf (ns : Names) (w : List ℕ) (us vs : List Token) : Type 0 where
   is_name : is_type_name ns w ≡ false
   left : us ≡ vs
 
-first_word : (a c : Token) (us vs : List Token) → a ∷ us ≡ c ∷ vs → a.word ≡ c.word
+pub first_word : (a c : Token) (us vs : List Token) → a ∷ us ≡ c ∷ vs → a.word ≡ c.word
 first_word a c us vs h = let g : a ≡ c = cc in ap (λ (t : Token). t.word) g
 
-rest_of : (a c : Token) (us vs : List Token) → a ∷ us ≡ c ∷ vs → us ≡ vs
+pub rest_of : (a c : Token) (us vs : List Token) → a ∷ us ≡ c ∷ vs → us ≡ vs
 rest_of a c us vs h = cc
 
 star-place : (ns : Names) (r : ℕ) (p q : Pos) (w : List ℕ) (rest : List Token) (x : Place) (us : List Token) → Place' ns r (mark m.Star p ∷ word w q ∷ rest) x us → StarOf ns w us rest

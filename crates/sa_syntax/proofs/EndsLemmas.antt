@@ -269,6 +269,17 @@ pub opens_then : {B : Type 0} {G : ℕ → List Token → B → List Token → T
     → ((i : ℕ) → n ≡ suc i → (p : Pos) (us : List Token) → Ends i (λ m vs c ws. G (suc m) (mark mk p ∷ vs) c ws) (λ m vs rest. S (suc m) (mark mk p ∷ vs) rest) us (f (suc i) p us)) → Ends n G S ts (and_then (opens n mk ts) (f n))
 opens_then f n mk ts d shut go = opens_from 0 f n mk ts d (λ m rest l. shut m rest) go
 
+-- a mark that opens one more where there is room for it
+pub opens_again : {B : Type 0} {n : ℕ} {G : ℕ → List Token → B → List Token → Type 0} {S : ℕ → List Token → List Token → Type 0} (i : ℕ) (mk : Punct) {f : Pos → Parser B} (ts d : List Token) → ((m : ℕ) (rest : List Token) → n ≤ m → S m (close mk ∷ (d ++ rest)) rest)
+    → ((p : Pos) (us : List Token) → Ends n (λ m vs c ws. G m (mark mk p ∷ vs) c ws) (λ m vs rest. S m (mark mk p ∷ vs) rest) us (f p us)) → Ends n G S ts (and_then (opens (suc i) mk ts) f)
+unfolding opens opens_any sees
+opens_again i mk [] d shut go = halts (close mk) d (refl, refl) shut
+opens_again {n = n} {G} {S} i mk {f} (t ∷ ts) d shut go = by_test (is_mark mk t.word) refl
+  where
+    by_test : (x : Bool) → is_mark mk t.word ≡ x → Ends n G S (t ∷ ts) (and_then (cond x (Got t.pos ts) (Stuck (t ∷ ts))) f)
+    by_test true h = at_word t.word (Mark mk) t.pos (is_mark_same mk t.word h) (go t.pos ts)
+    by_test false h = halts (close mk) d (refl, refl) shut
+
 -- ---- the place of the first token, where one is taken
 same_place : (c : Token) (b ts us vs : List Token) → ts ≡ c ∷ b ++ us → pos_of (c ∷ b ++ vs) ≡ pos_of ts
 same_place c b ts us vs e = sym (ap pos_of e)

@@ -29,4 +29,5 @@ pub mod EndsLemmas
 pub mod EndsExpr
 pub mod EndsStmt
 pub mod EndsBodies
+pub mod EndsUnit
 pub mod Samples
