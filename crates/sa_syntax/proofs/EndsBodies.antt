@@ -1,5 +1,5 @@
 -- Where a statement is refused some text goes on.
-use Rattle.std.proofs.Common.{◌≡◌, ℕ, zero, suc, ◌+◌, ◌≤◌, ◌<◌, List, [], ◌∷◌, ◌++◌, Bool, true, false, cond, refl, sym, ap, ◌∙◌, subst, length, arith, Option, Some, None}
+use Rattle.std.proofs.Common.{◌≡◌, ℕ, zero, suc, ◌≤◌, ◌<◌, List, [], ◌∷◌, ◌++◌, Bool, true, false, refl, sym, ap, subst, length, arith, Option, Some, None}
 use Rattle.std.specs.Prelude.{◌&&◌}
 use Rattle.sa_base.specs.declared.pos.Pos.{Pos}
 use Rattle.sa_tokens.specs.declared.keyword.Keyword.{Keyword}
@@ -11,7 +11,6 @@ use Rattle.sa_tokens.specs.declared.token.Word.TheVariants.{Name, Number, Key, M
 use Rattle.sa_tokens.specs.declared.token.Token.{Token}
 use Rattle.sa_syntax.specs.declared.expr.Expr.{Expr}
 use Rattle.sa_syntax.specs.declared.expr.Place.{Place}
-use Rattle.sa_syntax.specs.declared.stmt.Simple.{Simple}
 use Rattle.sa_syntax.specs.declared.stmt.Simple.TheVariants as simply
 use Rattle.sa_syntax.specs.declared.stmt.Directive.{Directive}
 use Rattle.sa_syntax.specs.declared.stmt.Directive.TheVariants as d
@@ -20,13 +19,12 @@ use Rattle.sa_syntax.specs.declared.stmt.Label.{Label}
 use Rattle.sa_syntax.specs.declared.stmt.Stmt.{Stmt}
 use Rattle.sa_syntax.specs.declared.stmt.Stmt.TheVariants as s
 use Rattle.sa_syntax.specs.declared.stmt.Group.{Group}
-use Rattle.sa_syntax.specs.declared.stmt.BlockItem.{BlockItem}
 use Rattle.sa_syntax.specs.declared.stmt.BlockItem.TheVariants as item
 use Rattle.sa_syntax.specs.Trees as tree
 use Rattle.sa_syntax.specs.Words.{Names, mark, key, is_else, begins_with_star, begins_with_else, begins_with_label}
-use Rattle.sa_syntax.specs.Expressions.{Whole, Place'}
-use Rattle.sa_syntax.specs.Statements.{Simple', Call', Local', Directive', First', Condition', Next', Label', Labels, Stmt', Nested, Groups, Body, Outermost}
-use Rattle.sa_syntax.specs.Reading.{Parser, Read, Got, Stuck, Deep, and_then, sees, opens, after, expect, key_at, mark_at, many, pure, ◌>>=◌, ◌>>◌}
+use Rattle.sa_syntax.specs.Expressions.{Place'}
+use Rattle.sa_syntax.specs.Statements.{Simple', Directive', First', Condition', Next', Labels, Stmt', Nested, Groups, Body, Outermost}
+use Rattle.sa_syntax.specs.Reading.{Parser, and_then, sees, after, expect, key_at, mark_at, many, pure, ◌>>=◌}
 use Rattle.sa_syntax.specs.ReadExpr.{begins_type}
 use Rattle.sa_syntax.specs.ReadStmt as read
 use Rattle.sa_syntax.specs.ReadStmt.{takes, within}
@@ -34,11 +32,10 @@ use Rattle.sa_syntax.proofs.ExprSound.{Within}
 use Rattle.sa_syntax.proofs.StmtSound as sound
 use Rattle.sa_syntax.proofs.StmtSound.{InBrackets}
 use Rattle.sa_syntax.proofs.StmtShorter.{stmt-shorter}
-use Rattle.sa_syntax.proofs.DeepLemmas.{Fine}
 use Rattle.sa_syntax.proofs.DeepStmt as fine
 use Rattle.sa_syntax.proofs.DeepUnit.{bodies_fine}
 use Rattle.sa_syntax.proofs.ClosingExpr.{spot, close, nought, zero-whole}
-use Rattle.sa_syntax.proofs.EndsLemmas.{Ends, Follows, Some', Front, done, halts, ends_if, ends_map, seq, seq_front, stepped, expect_then, expect_with, key_then, mark_then, opens_then, shifted, many_to, many_ends, placed_ends}
+use Rattle.sa_syntax.proofs.EndsLemmas.{Ends, Some', Front, done, halts, ends_if, ends_map, seq, seq_front, expect_then, expect_with, key_then, mark_then, opens_then, shifted, many_to, many_ends, placed_ends}
 use Rattle.sa_syntax.proofs.EndsExpr.{zero_expr, both_true}
 use Rattle.sa_syntax.proofs.EndsStmt as ends
 use Rattle.sa_syntax.proofs.EndsStmt.{star_same}

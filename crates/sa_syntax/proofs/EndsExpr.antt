@@ -1,5 +1,5 @@
 -- Where an expression, a place or a type is refused some text goes on.
-use Rattle.std.proofs.Common.{◌≡◌, ℕ, zero, suc, ◌+◌, ◌≤◌, ◌<◌, List, [], ◌∷◌, ◌++◌, Bool, true, false, cond, refl, sym, ap, ◌∙◌, subst, length, append_assoc, arith, Option, Some, None}
+use Rattle.std.proofs.Common.{◌≡◌, ℕ, zero, suc, List, [], ◌∷◌, ◌++◌, Bool, true, false, cond, refl, sym, ap, ◌∙◌, subst, arith, Option, Some, None}
 use Rattle.std.specs.Prelude.{◌&&◌}
 use Rattle.sa_base.specs.declared.pos.Pos.{Pos}
 use Rattle.sa_tokens.specs.declared.keyword.Keyword.{Keyword}
@@ -17,22 +17,19 @@ use Rattle.sa_syntax.specs.declared.decl.Base.{Base}
 use Rattle.sa_syntax.specs.declared.decl.Base.TheVariants as b
 use Rattle.sa_syntax.specs.declared.decl.ScalarWord.{ScalarWord}
 use Rattle.sa_syntax.specs.declared.decl.ScalarWord.TheVariants as w
-use Rattle.sa_syntax.specs.declared.decl.Bound.{Bound}
 use Rattle.sa_syntax.specs.declared.decl.Declr.{Declr}
 use Rattle.sa_syntax.specs.declared.decl.Field.{Field}
 use Rattle.sa_syntax.specs.declared.expr.Expr.{Expr}
 use Rattle.sa_syntax.specs.declared.expr.Expr.TheVariants as e
-use Rattle.sa_syntax.specs.declared.expr.Link.{Link}
 use Rattle.sa_syntax.specs.declared.expr.Operator.{Operator}
 use Rattle.sa_syntax.specs.declared.expr.Place.{Place}
 use Rattle.sa_syntax.specs.declared.expr.PlaceBase.TheVariants as at
 use Rattle.sa_syntax.specs.declared.expr.Prefix.{Prefix}
-use Rattle.sa_syntax.specs.declared.expr.Step.{Step}
 use Rattle.sa_syntax.specs.declared.expr.Step.TheVariants as step
 use Rattle.sa_syntax.specs.Trees as tree
-use Rattle.sa_syntax.specs.Words.{Names, mark, key, word, literal, named, is_type_name, is_star, is_close, is_name_and_close, is_through, prefix_of, operator_of, level_of, loosest, qualifier_of, scalar_of}
+use Rattle.sa_syntax.specs.Words.{Names, mark, key, word, literal, named, is_type_name, is_star, is_close, is_name_and_close, is_through, prefix_of, operator_of, loosest, qualifier_of, scalar_of}
 use Rattle.sa_syntax.specs.Expressions.{Whole, Ranked, Links, Unary, Place', Steps, Specifiers', Qualifiers, ScalarWords, Base', Struct', Fields, Declrs, Declr', Bounds}
-use Rattle.sa_syntax.specs.Reading.{Parser, Read, Got, Stuck, and_then, same_mark, sees, opens, after, expect, any_name, variable, name_at, key_at, mark_at, taken, many, pure, ◌>>=◌}
+use Rattle.sa_syntax.specs.Reading.{Got, Stuck, same_mark, sees, opens, after, expect, any_name, variable, name_at, key_at, mark_at, taken, many, pure, ◌>>=◌}
 use Rattle.sa_syntax.specs.ReadExpr as read
 use Rattle.sa_syntax.specs.ReadExpr.{Inner, inside}
 use Rattle.sa_syntax.proofs.ReadingLemmas.{yielded}
@@ -41,7 +38,7 @@ use Rattle.sa_syntax.proofs.Shorter.{type-shorter}
 use Rattle.sa_syntax.proofs.DeepExpr as fine
 use Rattle.sa_syntax.proofs.DeepExpr.{inside_fine}
 use Rattle.sa_syntax.proofs.ClosingExpr.{spot, close, nought, letter, int, int_type, int-type, letter_declr, fresh, fresh-is, zero-whole, one-field, chained_ranked}
-use Rattle.sa_syntax.proofs.EndsLemmas.{Ends, Follows, Some', Front, done, halts, ends_if, ends_map, seq, seq_front, stepped, expect_then, expect_with, name_then, named_then, variable_then, keyed_then, opens_then, opens_any_then, restored, many_ends, placed_ends}
+use Rattle.sa_syntax.proofs.EndsLemmas.{Ends, Some', Front, done, halts, ends_if, ends_map, seq, seq_front, stepped, expect_then, expect_with, name_then, named_then, variable_then, keyed_then, opens_then, opens_any_then, restored, many_ends, placed_ends}
 
 abbrev pub zero_expr : Expr
 zero_expr = e.Number 0 false 0 false spot

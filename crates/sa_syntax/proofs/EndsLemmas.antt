@@ -14,7 +14,7 @@ use Rattle.sa_syntax.specs.Reading.{Read, Got, Stuck, Deep, Parser, and_then, is
 use Rattle.sa_syntax.specs.ReadStmt.{takes, list_from, list}
 use Rattle.sa_syntax.proofs.ReadingLemmas.{Marked, Keyed, key_at_is, mark_at_is, sees_is, is_mark_same}
 use Rattle.sa_syntax.proofs.DeepLemmas.{Fine, Shrinks, shorter}
-use Rattle.sa_syntax.proofs.ClosingExpr.{spot, close, letter, fresh, fresh-is}
+use Rattle.sa_syntax.proofs.ClosingExpr.{spot, close, letter, fresh}
 
 -- ---- what may follow: an `else` or a label only where one followed
 pub record Follows (us vs : List Token) : Type 0 where

@@ -1,6 +1,5 @@
 -- Where an initialiser, a call, an assignment, a local, a directive or a label is refused some text goes on.
-use Rattle.std.proofs.Common.{◌≡◌, ℕ, zero, suc, ◌+◌, ◌-◌, ◌≤◌, ◌<◌, List, [], ◌∷◌, ◌++◌, Bool, true, false, cond, refl, sym, ap, ◌∙◌, subst, length, append_assoc, arith, Option, Some, None}
-use Rattle.std.specs.Prelude.{◌&&◌}
+use Rattle.std.proofs.Common.{◌≡◌, ℕ, zero, suc, ◌-◌, ◌≤◌, ◌<◌, List, [], ◌∷◌, ◌++◌, Bool, true, false, cond, refl, sym, ap, subst, length, arith, Option, Some, None}
 use Rattle.sa_base.specs.declared.pos.Pos.{Pos}
 use Rattle.sa_tokens.specs.declared.keyword.Keyword.{Keyword}
 use Rattle.sa_tokens.specs.declared.keyword.Keyword.TheVariants as k
@@ -9,13 +8,10 @@ use Rattle.sa_tokens.specs.declared.punct.Punct.TheVariants as m
 use Rattle.sa_tokens.specs.declared.token.Word.{Word}
 use Rattle.sa_tokens.specs.declared.token.Word.TheVariants.{Name, Number, Key, Mark}
 use Rattle.sa_tokens.specs.declared.token.Token.{Token}
-use Rattle.sa_syntax.specs.declared.decl.Name.{Name as Named}
-use Rattle.sa_syntax.specs.declared.decl.Specifiers.{Specifiers}
 use Rattle.sa_syntax.specs.declared.decl.Declr.{Declr}
 use Rattle.sa_syntax.specs.declared.decl.Init.{Init}
 use Rattle.sa_syntax.specs.declared.decl.Init.TheVariants as init
 use Rattle.sa_syntax.specs.declared.decl.Start.TheVariants as start
-use Rattle.sa_syntax.specs.declared.decl.InitDeclr.{InitDeclr}
 use Rattle.sa_syntax.specs.declared.expr.Expr.{Expr}
 use Rattle.sa_syntax.specs.declared.expr.Place.{Place}
 use Rattle.sa_syntax.specs.declared.expr.PlaceBase.TheVariants as at
@@ -23,31 +19,24 @@ use Rattle.sa_syntax.specs.declared.stmt.Compound.{Compound}
 use Rattle.sa_syntax.specs.declared.stmt.Turn.{Turn}
 use Rattle.sa_syntax.specs.declared.stmt.Simple.{Simple}
 use Rattle.sa_syntax.specs.declared.stmt.Simple.TheVariants as simply
-use Rattle.sa_syntax.specs.declared.stmt.Call.{Call}
 use Rattle.sa_syntax.specs.declared.stmt.Arg.{Arg}
-use Rattle.sa_syntax.specs.declared.stmt.ArgValue.{ArgValue}
 use Rattle.sa_syntax.specs.declared.stmt.ArgValue.TheVariants as value
 use Rattle.sa_syntax.specs.declared.stmt.Directive.{Directive}
-use Rattle.sa_syntax.specs.declared.stmt.Directive.TheVariants as d
-use Rattle.sa_syntax.specs.declared.stmt.First.{First}
 use Rattle.sa_syntax.specs.declared.stmt.First.TheVariants as first
-use Rattle.sa_syntax.specs.declared.stmt.Label.{Label}
 use Rattle.sa_syntax.specs.declared.stmt.Label.TheVariants as label
-use Rattle.sa_syntax.specs.declared.stmt.Local.{Local}
-use Rattle.sa_syntax.specs.declared.stmt.LocalDeclr.{LocalDeclr}
 use Rattle.sa_syntax.specs.declared.stmt.LocalStart.TheVariants as begins
 use Rattle.sa_syntax.specs.Trees as tree
 use Rattle.sa_syntax.specs.Words.{Names, mark, key, word, named, is_type_name, compound_of, turn_of, is_label, begins_with_star, begins_with_label}
 use Rattle.sa_syntax.specs.Expressions.{Whole, Place', Steps, Specifiers', Declr', Bounds}
-use Rattle.sa_syntax.specs.Statements.{Init', Inits, InitDeclr', InitDeclrs, ArgValue', Args, Call', Simple', LocalDeclr', LocalDeclrs, Local', Directive', First', Condition', Next', Label'}
-use Rattle.sa_syntax.specs.Reading.{Parser, Read, Got, Stuck, Deep, and_then, sees, opens, after, expect, variable, taken, name_at, key_at, mark_at, unless_type, turns, pure, ◌>>=◌, ◌>>◌}
-use Rattle.sa_syntax.specs.ReadExpr.{begins_type, inside}
+use Rattle.sa_syntax.specs.Statements.{Init', Inits, InitDeclr', ArgValue', Args, Call', Simple', LocalDeclr', LocalDeclrs, Local', Directive', First', Condition', Next', Label'}
+use Rattle.sa_syntax.specs.Reading.{Parser, Got, Stuck, Deep, and_then, sees, opens, expect, variable, taken, name_at, key_at, mark_at, turns, pure, ◌>>=◌}
+use Rattle.sa_syntax.specs.ReadExpr.{begins_type}
 use Rattle.sa_syntax.specs.ReadStmt as read
 use Rattle.sa_syntax.specs.ReadStmt.{takes, within, list}
 use Rattle.sa_syntax.proofs.StmtSound.{InBrackets}
 use Rattle.sa_syntax.proofs.Shorter.{place-shorter}
 use Rattle.sa_syntax.proofs.ClosingExpr.{spot, close, nought, letter, letter_declr, fresh, fresh-is, zero-whole}
-use Rattle.sa_syntax.proofs.EndsLemmas.{Ends, Follows, Some', Found, done, halts, ends_if, ends_reader, ends_map, seq, seq_with, seq_front, stepped, expect_then, expect_with, variable_then, key_then, mark_then, seen_then, opens_then, opens_from, found_next, found_none, list_ends}
+use Rattle.sa_syntax.proofs.EndsLemmas.{Ends, Some', Found, done, halts, ends_if, ends_reader, ends_map, seq, seq_with, seq_front, stepped, expect_then, expect_with, key_then, mark_then, seen_then, opens_then, opens_from, found_next, found_none, list_ends}
 use Rattle.sa_syntax.proofs.EndsExpr as ends
 use Rattle.sa_syntax.proofs.EndsExpr.{zero_expr, deeper_ends}
 

@@ -1,6 +1,5 @@
 -- Where a source is refused some text goes on, and none with the token there.
-use Rattle.std.proofs.Common.{◌≡◌, ℕ, zero, suc, ◌+◌, ◌≤◌, ◌<◌, List, [], ◌∷◌, ◌++◌, Bool, true, false, cond, refl, sym, ap, ◌∙◌, subst, length, append_assoc, length-append, arith, ◌⊎◌, inl, inr, Option, Some, None}
-use Rattle.std.specs.Prelude.{◌&&◌}
+use Rattle.std.proofs.Common.{◌≡◌, ℕ, zero, suc, ◌+◌, ◌≤◌, ◌<◌, List, [], ◌∷◌, ◌++◌, Bool, true, false, cond, refl, sym, ap, ◌∙◌, subst, length, append_assoc, arith, ◌⊎◌, inl, inr, Option, Some, None}
 use Rattle.sa_base.specs.declared.pos.Pos.{Pos}
 use Rattle.sa_tokens.specs.declared.keyword.Keyword.{Keyword}
 use Rattle.sa_tokens.specs.declared.keyword.Keyword.TheVariants as k
@@ -12,10 +11,8 @@ use Rattle.sa_tokens.specs.declared.token.Token.{Token}
 use Rattle.sa_syntax.specs.declared.decl.Name.{Name as Named}
 use Rattle.sa_syntax.specs.declared.decl.Specifiers.{Specifiers}
 use Rattle.sa_syntax.specs.declared.decl.Base.{Base}
-use Rattle.sa_syntax.specs.declared.decl.Qualifier.{Qualifier}
 use Rattle.sa_syntax.specs.declared.decl.Struct.{Struct}
 use Rattle.sa_syntax.specs.declared.decl.Start.TheVariants as start
-use Rattle.sa_syntax.specs.declared.decl.ScalarWord.{ScalarWord}
 use Rattle.sa_syntax.specs.declared.unit.Param.{Param}
 use Rattle.sa_syntax.specs.declared.unit.Params.{Params}
 use Rattle.sa_syntax.specs.declared.unit.Params.TheVariants as given
@@ -23,10 +20,10 @@ use Rattle.sa_syntax.specs.declared.unit.Item.{Item}
 use Rattle.sa_syntax.specs.declared.unit.Item.TheVariants as top
 use Rattle.sa_syntax.specs.declared.unit.Unit.{Unit as Source}
 use Rattle.sa_syntax.specs.Trees as tree
-use Rattle.sa_syntax.specs.Words.{Names, mark, key, word, named, is_void, is_close, begins_with_close, is_void_alone, qualifier_of, scalar_of}
+use Rattle.sa_syntax.specs.Words.{Names, mark, key, word, named, is_void, is_close, is_void_alone}
 use Rattle.sa_syntax.specs.Expressions.{Specifiers', Qualifiers, ScalarWords, Base', Struct', Declr', Bounds}
 use Rattle.sa_syntax.specs.Statements.{all_named, InitDeclr', InitDeclrs, Param', ParamList, Params', Starred, Nameable, Outermost, Units, Tree}
-use Rattle.sa_syntax.specs.Reading.{Parser, Read, Got, Stuck, Deep, and_then, sees, after, expect, any_name, opens, name_at, key_at, turns, pure, ◌>>=◌}
+use Rattle.sa_syntax.specs.Reading.{Read, Got, Stuck, Deep, and_then, sees, after, expect, name_at, key_at, turns, ◌>>=◌}
 use Rattle.sa_syntax.specs.Refusals.{Begins, BeginsNone, HasNoTree, FailsAt}
 use Rattle.sa_syntax.specs.ReadExpr.{is_some}
 use Rattle.sa_syntax.specs.ReadStmt as read
@@ -35,10 +32,10 @@ use Rattle.sa_syntax.proofs.StmtRoom.{sources_agree}
 use Rattle.sa_syntax.proofs.StmtShorter.{param-shorter}
 use Rattle.sa_syntax.proofs.UnitSound.{bare_struct}
 use Rattle.sa_syntax.proofs.UnitComplete.{source-complete}
-use Rattle.sa_syntax.proofs.DeepLemmas.{Fine, Shrinks, Local, shorter}
+use Rattle.sa_syntax.proofs.DeepLemmas.{Shrinks, Local, shorter}
 use Rattle.sa_syntax.proofs.DeepUnit as fine
 use Rattle.sa_syntax.proofs.ClosingExpr.{spot, close, letter, letter_declr}
-use Rattle.sa_syntax.proofs.EndsLemmas.{Ends, Follows, Some', done, halts, ends_if, ends_map, seq, seq_with, seq_front, expect_then, name_then, key_then, seen_then, opens_then, opens_again, list_ends, placed_ends}
+use Rattle.sa_syntax.proofs.EndsLemmas.{Ends, Some', done, halts, ends_if, ends_map, seq, seq_with, seq_front, expect_then, name_then, key_then, seen_then, opens_then, opens_again, list_ends, placed_ends}
 use Rattle.sa_syntax.proofs.EndsExpr.{both_true, first_word, rest_of}
 use Rattle.sa_syntax.proofs.EndsStmt as ends
 use Rattle.sa_syntax.proofs.EndsBodies.{outermost_ends}
@@ -153,7 +150,7 @@ SomeTyped ns t r us z = (ss : List Token) → Specifiers' ns r ss t us → Some'
 module _ (ns : Names) (n : ℕ) where
   proto_or_ends : (i : ℕ) (t : Specifiers) (w : List ℕ) (p q : Pos) (ps : Params) (ts : List Token)
       → Ends i (λ r vs x ws. (xs : List Token) → Params' ns r xs ps vs → (ss : List Token) → Specifiers' ns (suc r) ss t (word w p ∷ mark m.OpenParen q ∷ xs) → InFront ns (suc r) ss x ws)
-        (λ r vs z. (xs : List Token) → Params' ns r xs ps vs → (ss : List Token) → Specifiers' ns (suc r) ss t (word w p ∷ mark m.OpenParen q ∷ xs) → Some' (InFront ns) (suc r) ss z) ts (read.ends ns (suc i) t (named w p) ps ts)
+      (λ r vs z. (xs : List Token) → Params' ns r xs ps vs → (ss : List Token) → Specifiers' ns (suc r) ss t (word w p ∷ mark m.OpenParen q ∷ xs) → Some' (InFront ns) (suc r) ss z) ts (read.ends ns (suc i) t (named w p) ps ts)
   unfolding read.ends read.body
   proto_or_ends i t w p q ps ts = ends_if (sees m.Semicolon ts)
       (λ h. seen_then m.Semicolon (λ us. Got (top.Proto t (named w p) ps) us) ts h (λ o us e. done (λ r zs l f xs j ss c is go. Units.proto c j go)))

@@ -51,7 +51,10 @@ fn where_a_source_is_refused(rt: HostRuntime) -> Result<(), Fail> {
         ("\0", TokenFault::BadByte(at(1, 1))),
         ("// reset \\\0\nx = 0;", TokenFault::BadByte(at(1, 10))),
         ("x??/\0 \0\r\ny", TokenFault::BadByte(at(1, 2))),
-        ("/* *\\\0\n/ x = 1 / 0; /* */", TokenFault::OpenComment(at(1, 1))),
+        (
+            "/* *\\\0\n/ x = 1 / 0; /* */",
+            TokenFault::OpenComment(at(1, 1)),
+        ),
         ("#1 \\\0\n", TokenFault::Directive(at(1, 1))),
         ("#\0001", TokenFault::Directive(at(1, 1))),
     ];
