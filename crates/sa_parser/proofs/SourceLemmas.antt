@@ -1,6 +1,6 @@
 -- Items of a source one after another, and what the reader's answer says of the grammar.
-use Rattle.std.proofs.Common.{◌≡◌, ℕ, zero, suc, ◌≤◌, List, [], ◌∷◌, ◌++◌, true, false, refl, sym, ap, ◌∙◌, arith, inl, inr}
-use Rattle.std.specs.Prelude.{◌≢◌, ◌⊎◌, slice_get}
+use Rattle.std.proofs.Common.{◌≡◌, ℕ, zero, suc, ◌-◌, List, [], ◌∷◌, ◌++◌, true, false, refl, sym, ap, ◌∙◌, length, length-append, arith}
+use Rattle.std.specs.Prelude.{◌≢◌, slice_get}
 use Rattle.sa_base.specs.declared.pos.Pos.{Pos}
 use Rattle.sa_parser.specs.declared.fault.Stop.{Stop}
 use Rattle.sa_parser.specs.declared.fault.Stop.TheVariants as stop
@@ -8,15 +8,12 @@ use Rattle.sa_parser.specs.Outcome.{stopped}
 use Rattle.sa_parser.specs.Faults.{IsFault, fault_at, place_of}
 use Rattle.sa_tokens.specs.declared.token.Token.{Token}
 use Rattle.sa_syntax.specs.declared.unit.Item.{Item}
-use Rattle.sa_syntax.specs.declared.unit.Unit.{Unit as Source}
 use Rattle.sa_syntax.specs.Words.{Names}
 use Rattle.sa_syntax.specs.Reading.{Read, Got, Stuck, Deep, and_then, turns}
 use Rattle.sa_syntax.specs.ReadStmt.{an_item, names_after, items_from, source}
 use Rattle.sa_syntax.specs.Trees as tree
-use Rattle.sa_syntax.specs.Refusals.{most_open, HasNoTree, IsTooDeep, IsPlaceOf}
-use Rattle.sa_syntax.specs.SoundLaws.{MoreRoomReadsTheSameSource}
-use Rattle.sa_syntax.specs.StmtLaws.{ReadsSources}
-use Rattle.sa_syntax.specs.RefusalLaws.{TellsDepth}
+use Rattle.sa_syntax.specs.Refusals.{most_open, IsTooDeep, HasNoTextFrom, place_at}
+use Rattle.sa_syntax.specs.RefusalLaws.{TellsDepth, TellsPlace}
 use Rattle.sa_parser.specs.Parts.{is_end}
 
 pub items_end : (n k : ℕ) (ns : Names) (found : List Item) (ts : List Token) → is_end ts ≡ true → items_from n (suc k) ns found ts ≡ Got found ts
@@ -47,43 +44,35 @@ source_stuck n ts us h = source_is n ts ∙ ap (λ (r : Read (List Item)). and_t
 pub source_deep : (n : ℕ) (ts us : List Token) → items_from n (turns ts) [] [] ts ≡ Deep us → source n ts ≡ Deep us
 source_deep n ts us h = source_is n ts ∙ ap (λ (r : Read (List Item)). and_then r (λ is us. Got (tree.source is) us)) h
 
--- ---- refusals
-either : (n more : ℕ) → (n ≤ more) ⊎ (more ≤ n)
-either n more = grind arith
-
-less_room : (n more : ℕ) (ts us : List Token) (u : Source) → source n ts ≡ Stuck us → source more ts ≡ Got u [] →
-    ((vs : List Token) × (source n ts ≡ Deep vs)) ⊎ (source n ts ≡ source more ts) → ⊥
-less_room n more ts us u s g (inl d) = let e = sym s ∙ d.1 in cc
-less_room n more ts us u s g (inr d) = let e = sym s ∙ d ∙ g in cc
-
-more_room : (n more : ℕ) (ts us : List Token) (u : Source) → source n ts ≡ Stuck us → source more ts ≡ Got u [] →
-    ((vs : List Token) × (source more ts ≡ Deep vs)) ⊎ (source more ts ≡ source n ts) → ⊥
-more_room n more ts us u s g (inl d) = let e = sym g ∙ d.1 in cc
-more_room n more ts us u s g (inr d) = let e = sym g ∙ d ∙ s in cc
-
-at_room : (room : MoreRoomReadsTheSameSource) (n more : ℕ) (ts us : List Token) (u : Source) → source n ts ≡ Stuck us → source more ts ≡ Got u [] → (n ≤ more) ⊎ (more ≤ n) → ⊥
-at_room room n more ts us u s g (inl h) = less_room n more ts us u s g (room n more h ts)
-at_room room n more ts us u s g (inr h) = more_room n more ts us u s g (room more n h ts)
-
-pub stuck_none : ReadsSources → MoreRoomReadsTheSameSource → (n : ℕ) (ts us : List Token) → items_from n (turns ts) [] [] ts ≡ Stuck us → HasNoTree ts
-stuck_none reads room n ts us h = λ more u x. at_room room n more ts us u (source_stuck n ts us h) (reads more ts u x) (either n more)
-
-pub deep_none : TellsDepth → (ts us : List Token) → items_from most_open (turns ts) [] [] ts ≡ Deep us → IsTooDeep ts
-deep_none tells ts us h = (tells most_open ts us (source_deep most_open ts us h)).0
-
 -- ---- places
-end_place : (end : Pos) (ts : List Token) → IsPlaceOf end ts end
-end_place end [] = refl
-end_place end (t ∷ ts) = inr (end_place end ts)
+append_length : (b us : List Token) → length (b ++ us) - length us ≡ length b
+append_length b us = let n = length-append b us in omega (arith, n)
 
-pub token_place : (end : Pos) (ts : List Token) (k : ℕ) → IsPlaceOf end ts (place_of end (slice_get ts k))
-token_place end [] k = refl
-token_place end (x ∷ ts) zero = inl refl
-token_place end (x ∷ ts) (suc k) = inr (token_place end ts k)
+behind_front : (end : Pos) (b us : List Token) → place_of end (slice_get (b ++ us) (length b)) ≡ place_at end us
+behind_front end [] [] = refl
+behind_front end [] (t ∷ us) = refl
+behind_front end (x ∷ b) us = behind_front end b us
+
+-- the token of that number is the first of what is left
+pub token_place : (end : Pos) (b us ts : List Token) (k : ℕ) → ts ≡ b ++ us → k ≡ length ts - length us → place_of end (slice_get ts k) ≡ place_at end us
+token_place end b us ts k e h =
+    let n : k ≡ length b = h ∙ ap (λ z. length z - length us) e ∙ append_length b us in
+    ap (λ z. place_of end (slice_get z k)) e ∙ ap (λ i. place_of end (slice_get (b ++ us) i)) n ∙ behind_front end b us
 
 -- ---- what is refused
-pub refused : ReadsSources → MoreRoomReadsTheSameSource → TellsDepth → (ts us : List Token) (end p : Pos) (s : Stop) →
-    (s ≢ stop.OutOfMemory → items_from most_open (turns ts) [] [] ts ≡ stopped s us) → IsPlaceOf end ts p → IsFault ts end (fault_at s p)
-refused reads room tells ts us end p stop.Syntax h at = (stuck_none reads room most_open ts us (h (λ e. cc)), at)
-refused reads room tells ts us end p stop.TooDeep h at = (deep_none tells ts us (h (λ e. cc)), at)
-refused reads room tells ts us end p stop.OutOfMemory h at = tt
+stuck_from : TellsPlace → (ts us : List Token) (end p : Pos) (k : ℕ) → items_from most_open (turns ts) [] [] ts ≡ Stuck us → k ≡ length ts - length us → p ≡ place_of end (slice_get ts k) → HasNoTextFrom end ts p
+stuck_from tells ts us end p k h n at =
+    let f = tells most_open ts us (source_stuck most_open ts us h) in
+    record { rest = us; fails = f; place = at ∙ token_place end f.before us ts k f.is n }
+
+deep_at : (ts us : List Token) (end p : Pos) (k : ℕ) (d : IsTooDeep ts) → us ≡ d.token ∷ d.after → k ≡ length ts - length us → p ≡ place_of end (slice_get ts k) → p ≡ d.token.pos
+deep_at ts us end p k d e n at = at ∙ token_place end d.before us ts k (d.is ∙ ap (λ z. d.before ++ z) (sym e)) n ∙ ap (place_at end) e
+
+deep_from : TellsDepth → (ts us : List Token) (end p : Pos) (k : ℕ) → items_from most_open (turns ts) [] [] ts ≡ Deep us → k ≡ length ts - length us → p ≡ place_of end (slice_get ts k) → (d : IsTooDeep ts) × (p ≡ d.token.pos)
+deep_from tells ts us end p k h n at = let d = tells most_open ts us (source_deep most_open ts us h) in (d.0, deep_at ts us end p k (d.0) (d.1) n at)
+
+pub refused : TellsPlace → TellsDepth → (ts us : List Token) (end p : Pos) (k : ℕ) (s : Stop) →
+    (s ≢ stop.OutOfMemory → items_from most_open (turns ts) [] [] ts ≡ stopped s us) → k ≡ length ts - length us → p ≡ place_of end (slice_get ts k) → IsFault ts end (fault_at s p)
+refused place depth ts us end p k stop.Syntax h n at = stuck_from place ts us end p k (h (λ e. cc)) n at
+refused place depth ts us end p k stop.TooDeep h n at = deep_from depth ts us end p k (h (λ e. cc)) n at
+refused place depth ts us end p k stop.OutOfMemory h n at = tt

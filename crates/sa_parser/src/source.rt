@@ -61,16 +61,16 @@ fn fault_at(stop: Stop, pos: Pos) -> ParseFault
     }
 }
 
-/// The tree of a source, whose last byte stands before `end`. It errs with `Syntax` where the tokens have no tree, and with
-/// `TooDeep` where more than 200 brackets, prefix operators, choices and statements are open at a token.
+/// The tree of a source, whose last byte stands before `end`. It errs with `Syntax` at the first token with which the tokens up to
+/// it begin no text of the grammar, or at `end` where they begin one and are none, and with `TooDeep` at a token at which more than
+/// 200 brackets, prefix operators, choices and statements are open.
 pub fn parse(alloc: Global, tokens: &[Token], end: Pos) -> Result<Unit, ParseFault>
     ensures ok { IfOk result (IsSource tokens.now) }
     ensures fault { IfErr result (IsFault tokens.now end) }
 {
     sa_syntax::readings_are_sources();
-    sa_syntax::reads_sources();
-    sa_syntax::more_room_reads_the_same_source();
     sa_syntax::tells_depth();
+    sa_syntax::tells_place();
     // No memory holds so many.
     if tokens.len() == usize::MAX {
         return Err(ParseFault::OutOfMemory);

@@ -10,7 +10,10 @@ use std::test::Fail;
 const MOST_BYTES: usize = 4_194_304;
 
 fn read(alloc: Global, source: &str) -> Result<Unit, ParseFault> {
-    let bytes = source.as_bytes();
+    read_bytes(alloc, source.as_bytes())
+}
+
+fn read_bytes(alloc: Global, bytes: &[u8]) -> Result<Unit, ParseFault> {
     if bytes.len() > MOST_BYTES {
         return Err(ParseFault::OutOfMemory);
     }
@@ -130,6 +133,48 @@ fn how_much_may_be_open(rt: HostRuntime) -> Result<(), Fail> {
                     "{count}"
                 ),
             }
+        }
+    }
+    Ok(())
+}
+
+#[test]
+fn where_a_text_that_is_cut_off_is_refused(rt: HostRuntime) -> Result<(), Fail> {
+    let alloc = rt.alloc();
+    let source = b"void main(void) { while (1) { __ASTREE_wait_for_clock(()); } }".as_slice();
+    for length in 1..source.len() {
+        // A name or a keyword that is cut off is a name where it stands.
+        let place = match length {
+            1..=3 => 0,
+            11..=13 => 10,
+            _ => length,
+        };
+        let col = u32::try_from(place).unwrap_or(0).saturating_add(1);
+        match read_bytes(alloc, &source[..length]) {
+            Ok(_) => assert!(rt; false, "{length}"),
+            Err(fault) => assert_eq!(rt; fault, ParseFault::Syntax(at(1, col)), "{length}"),
+        }
+    }
+    Ok(())
+}
+
+#[test]
+fn which_comes_first_of_an_error_and_the_limit(rt: HostRuntime) -> Result<(), Fail> {
+    let alloc = rt.alloc();
+    let open = format!(in alloc; "int x = {}", "(".repeat(alloc, 200)?)?;
+    let deeper = format!(in alloc; "int x = {}+", "(".repeat(alloc, 201)?)?;
+    let word = format!(in alloc; "void f(void) {{ {}if ; }}", "if (1) ".repeat(alloc, 199)?)?;
+    let body = format!(in alloc; "void f(void) {{ {}}}", "do ".repeat(alloc, 200)?)?;
+    let cases = [
+        (&open, ParseFault::Syntax(at(1, 209))),
+        (&deeper, ParseFault::TooDeep(at(1, 209))),
+        (&word, ParseFault::Syntax(at(1, 1412))),
+        (&body, ParseFault::Syntax(at(1, 616))),
+    ];
+    for (source, expected) in cases {
+        match read(alloc, source) {
+            Ok(_) => assert!(rt; false, "{source}"),
+            Err(fault) => assert_eq!(rt; fault, expected, "{source}"),
         }
     }
     Ok(())

@@ -208,7 +208,7 @@ int-type ns n rest h = Specifiers'.specifiers Qualifiers.no_qualifier (Base'.sca
 abbrev pub letter_declr : Declr
 letter_declr = tree.declr (named letter spot) []
 
-one-field : (ns : Names) (n : ℕ) (rest : List Token) → Fields ns n (int ∷ word letter spot ∷ close m.Semicolon ∷ rest) (tree.field int_type (letter_declr ∷ []) ∷ []) rest
+pub one-field : (ns : Names) (n : ℕ) (rest : List Token) → Fields ns n (int ∷ word letter spot ∷ close m.Semicolon ∷ rest) (tree.field int_type (letter_declr ∷ []) ∷ []) rest
 one-field ns n rest = Fields.field (int-type ns n (word letter spot ∷ close m.Semicolon ∷ rest) ScalarWords.no_word) (Declrs.last_declr (Declr'.declr Bounds.no_bound)) Fields.no_field
 
 -- behind the word `struct`
@@ -389,7 +389,7 @@ link_front : (ns : Names) (more l : ℕ) (ss : List Token) (op : Operator) (us :
     → Front (λ more ss xs us. Links ns more l ss xs us) more ss (tree.link op (tree.pos_of ss) a) vs
 link_front ns more l _ _ us a vs (sound.IsOperator.is_operator h level) i xs ws go = Links.link h level i go
 
-chained_ranked : (ns : Names) (more l : ℕ) (ss : List Token) (a : Expr) (us : List Token) (xs : List Link) (vs : List Token) → Ranked ns more l ss a us → Links ns more l us xs vs → Ranked ns more (suc l) ss (read.chained a xs) vs
+pub chained_ranked : (ns : Names) (more l : ℕ) (ss : List Token) (a : Expr) (us : List Token) (xs : List Link) (vs : List Token) → Ranked ns more l ss a us → Links ns more l us xs vs → Ranked ns more (suc l) ss (read.chained a xs) vs
 chained_ranked ns more l ss a us _ _ i Links.no_link = Ranked.alone i
 chained_ranked ns more l ss a _ _ vs i (Links.link h level j go) = Ranked.chain i (Links.link h level j go)
 

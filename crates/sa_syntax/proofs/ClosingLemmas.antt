@@ -67,7 +67,8 @@ moved_read {t = t} {r = r} (Got d us) y a c (Local.gone h) e =
     let k : length (c ++ t ∷ r) ≡ length c + length (t ∷ r) = length-append c (t ∷ r) in
     absurd (omega (arith, l, k, h))
 moved_read _ y a c (Local.gone_deep h) e = cc
-moved_read _ y a c Local.stuck e = cc
+moved_read _ y a c (Local.stuck b) e = cc
+moved_read _ y a c (Local.gone_stuck h) e = cc
 
 room_read : {A : Type 0} (x y : Read A) (a : A) (us : List Token) → Less x y → x ≡ Got a us → y ≡ Got a us
 room_read _ y a us Less.out e = cc
@@ -81,7 +82,7 @@ moves {p = p} good n more h b c t r s a e =
 
 split_of : {A : Type 0} {k : ℕ} {ts : List Token} (x : Read A) (a : A) (us : List Token) → Shrinks k ts x → x ≡ Got a us → (xs : List Token) × (ts ≡ xs ++ us)
 split_of {ts = ts} (Got d vs) a us (Shrinks.got xs e l) f = let g : vs ≡ us = cc in (xs, e ∙ ap (λ z. xs ++ z) g)
-split_of _ a us Shrinks.stuck f = cc
+split_of _ a us (Shrinks.stuck xs e) f = cc
 split_of _ a us (Shrinks.deep xs e) f = cc
 
 -- the reader behind goes too deep

@@ -17,8 +17,8 @@ use Rattle.sa_syntax.specs.declared.expr.Prefix.{Prefix}
 use Rattle.sa_syntax.specs.declared.expr.PlaceBase.TheVariants as at
 use Rattle.sa_syntax.specs.declared.expr.Step.TheVariants as step
 use Rattle.sa_syntax.specs.Trees as tree
-use Rattle.sa_syntax.specs.Words.{Names, mark, key, word, literal, is_through, prefix_of, loosest}
-use Rattle.sa_syntax.specs.Reading.{Parser, Read, Deep, same_mark, sees, after, expect, opens_any, opens, variable, name_at, key_at, mark_at, many, while_from, pure, ◌>>=◌}
+use Rattle.sa_syntax.specs.Words.{Names, mark, key, word, literal, is_type_name, is_through, prefix_of, loosest}
+use Rattle.sa_syntax.specs.Reading.{Parser, Read, Stuck, Deep, same_mark, sees, after, expect, opens_any, opens, variable, name_at, key_at, mark_at, many, while_from, pure, ◌>>=◌}
 use Rattle.sa_syntax.specs.ReadExpr as read
 use Rattle.sa_syntax.specs.ReadExpr.{Inner, inside}
 use Rattle.sa_syntax.proofs.DeepLemmas.{Shrinks, Local, shrink_then, shrink_cond, local_cond, same_first, variable_gone, any_name_gone, loosen_read, Fine, Ahead, beyond, loosen, fine_then, fine_first, fine_next, fine_pure, fine_refuse, fine_ahead, fine_if, fine_after, fine_taken, fine_any_name, fine_variable, fine_expect, fine_opens_then, fine_opens_any_then, fine_many, sees_ahead, name_ahead, key_ahead, mark_ahead}
@@ -31,13 +31,14 @@ pub record IsFine (ns : Names) (inner : Inner) : Type 0 where
   pub fields : Fine 0 inner.fields
   -- behind a star comes a name
   pub star : (p : Pos) (us ts : List Token) → Shrinks 0 ts (variable ns us) → Shrinks 0 ts (inner.whole (mark m.Star p ∷ us))
+  pub no_star : (p : Pos) (us : List Token) → variable ns us ≡ Stuck us → inner.whole (mark m.Star p ∷ us) ≡ Stuck us
 
 -- ---- words of types
 qualified_ahead : (o : Option Qualifier) (t : Token) (r s : List Token) → read.qualified_at o (t ∷ r) ≡ read.qualified_at o (t ∷ s)
 qualified_ahead None t r s = refl
 qualified_ahead (Some q) t r s = refl
 
-qualifier_fine : Fine 1 read.qualifier
+pub qualifier_fine : Fine 1 read.qualifier
 unfolding read.qualifier key_at
 qualifier_fine = fine_taken (λ ts. read.qualified_at (read.qualifier_in (key_at ts)) ts) (λ t r s. qualified_ahead (read.qualifier_in (key_at (t ∷ r))) t r s) refl
 
@@ -293,9 +294,47 @@ module _ (ns : Names) (n : ℕ) (inner : Inner) (fine : IsFine ns inner) where
   second p (Mark m.Star) q r s = beyond r (omega arith) (star_gone p q r r ((loosen (fine_variable ns)).shrinks r))
   second p w q r s = alike p [] (record { word = w; pos = q }) r s refl
 
+  -- behind a bracket and a star no name
+  through_stuck : (p q : Pos) (us : List Token) → variable ns us ≡ Stuck us → read.a_place ns (suc n) inner (mark m.OpenParen p ∷ mark m.Star q ∷ us) ≡ Stuck us
+  unfolding read.a_place read.place read.through mark_at opens opens_any sees same_mark expect
+  through_stuck p q us v = rw v refl
+
+  bracket_stuck : (p q : Pos) (us : List Token) → variable ns us ≡ Stuck us → read.bracket ns (suc n) inner (mark m.OpenParen p ∷ mark m.Star q ∷ us) ≡ Stuck us
+  unfolding read.bracket opens opens_any sees same_mark
+  bracket_stuck p q us v = rw (fine.no_star q us v) refl
+
+  same_two : (x : Bool) (a c d : Read Expr) → a ≡ d → c ≡ d → cond x a c ≡ d
+  same_two true a c d e f = e
+  same_two false a c d e f = f
+
+  star_stuck : (p q : Pos) (us : List Token) → variable ns us ≡ Stuck us → read.bracketed ns (suc n) inner (mark m.OpenParen p ∷ mark m.Star q ∷ us) ≡ Stuck us
+  unfolding read.bracketed read.begins_type read.sees_qualifier read.sees_scalar key_at name_at
+  star_stuck p q us v = same_two (is_through (mark m.Star q ∷ us)) _ _ (Stuck us) (through_stuck p q us v) (bracket_stuck p q us v)
+
+  both_stuck : (p q : Pos) (t : Token) (r s : List Token) → variable ns (t ∷ r) ≡ Stuck (t ∷ r) → variable ns (t ∷ s) ≡ Stuck (t ∷ s)
+      → Local t r s (read.bracketed ns (suc n) inner (mark m.OpenParen p ∷ mark m.Star q ∷ t ∷ r)) (read.bracketed ns (suc n) inner (mark m.OpenParen p ∷ mark m.Star q ∷ t ∷ s))
+  both_stuck p q t r s one other = rw (star_stuck p q (t ∷ r) one) (rw (star_stuck p q (t ∷ s) other) (Local.stuck []))
+
+  type_stuck : (w : List ℕ) (p : Pos) (us : List Token) → is_type_name ns w ≡ true → variable ns (word w p ∷ us) ≡ Stuck (word w p ∷ us)
+  unfolding variable name_at
+  type_stuck w p us h = rw h refl
+
+  name_third : (p q : Pos) (w : List ℕ) (o : Pos) (r s : List Token) (x : Bool) → is_type_name ns w ≡ x
+      → Local (word w o) r s (read.bracketed ns (suc n) inner (mark m.OpenParen p ∷ mark m.Star q ∷ word w o ∷ r)) (read.bracketed ns (suc n) inner (mark m.OpenParen p ∷ mark m.Star q ∷ word w o ∷ s))
+  name_third p q w o r s true h = both_stuck p q (word w o) r s (type_stuck w o r h) (type_stuck w o s h)
+  name_third p q w o r s false h = beyond r (omega arith) (star_gone p q (word w o ∷ r) r (variable_gone ns w o r h))
+
+  star_third : (p q : Pos) (w : Word) (o : Pos) (r s : List Token) → let t : Token = record { word = w; pos = o } in
+      Local t r s (read.bracketed ns (suc n) inner (mark m.OpenParen p ∷ mark m.Star q ∷ t ∷ r)) (read.bracketed ns (suc n) inner (mark m.OpenParen p ∷ mark m.Star q ∷ t ∷ s))
+  unfolding variable name_at
+  star_third p q (Name w) o r s = name_third p q w o r s (is_type_name ns w) refl
+  star_third p q (Number v u l d) o r s = both_stuck p q (literal v u l d o) r s refl refl
+  star_third p q (Key j) o r s = both_stuck p q (key j o) r s refl refl
+  star_third p q (Mark j) o r s = both_stuck p q (mark j o) r s refl refl
+
   third : (p : Pos) (w : Word) (q : Pos) (t : Token) (r s : List Token) → let c : Token = record { word = w; pos = q } in Local t r s (read.bracketed ns (suc n) inner (mark m.OpenParen p ∷ c ∷ t ∷ r)) (read.bracketed ns (suc n) inner (mark m.OpenParen p ∷ c ∷ t ∷ s))
   unfolding is_through
-  third p (Mark m.Star) q t r s = beyond r (omega arith) (star_gone p q (t ∷ r) r (variable_gone ns t r))
+  third p (Mark m.Star) q t r s = star_third p q t.word t.pos r s
   third p w q t r s = alike p ((record { word = w; pos = q }) ∷ []) t r s refl
 
   open_bracket : (p : Pos) (b : List Token) (t : Token) (r s : List Token) → Local t r s (read.bracketed ns (suc n) inner (mark m.OpenParen p ∷ b ++ t ∷ r)) (read.bracketed ns (suc n) inner (mark m.OpenParen p ∷ b ++ t ∷ s))
@@ -324,7 +363,7 @@ module _ (ns : Names) (n : ℕ) (inner : Inner) (deeper : (i : ℕ) → n ≡ su
   word_shrinks : (w : Word) (p : Pos) (ts : List Token) → let t : Token = record { word = w; pos = p } in Shrinks 0 (t ∷ ts) (read.unary_by ns n inner t ts)
   word_shrinks (Name w) p ts = (loosen (a_place_fine ns n inner deeper)).shrinks _
   word_shrinks (Number v u l d) p ts = Shrinks.got (literal v u l d p ∷ []) refl (omega arith)
-  word_shrinks (Key j) p ts = Shrinks.stuck
+  word_shrinks (Key j) p ts = Shrinks.stuck [] refl
   word_shrinks (Mark mk) p ts = mark_shrinks mk _
 
   mark_near : (mk : Punct) (p : Pos) (r s : List Token) → Local (mark mk p) r s (read.unary_mark ns n inner mk (mark mk p ∷ r)) (read.unary_mark ns n inner mk (mark mk p ∷ s))
@@ -340,18 +379,18 @@ module _ (ns : Names) (n : ℕ) (inner : Inner) (deeper : (i : ℕ) → n ≡ su
   word_near : (w : Word) (p : Pos) (r s : List Token) → let t : Token = record { word = w; pos = p } in Local t r s (read.unary_by ns n inner t r) (read.unary_by ns n inner t s)
   word_near (Name w) p r s = (a_place_fine ns n inner deeper).local [] (word w p) r s
   word_near (Number v u l d) p r s = Local.gone (omega arith)
-  word_near (Key j) p r s = Local.stuck
+  word_near (Key j) p r s = Local.stuck []
   word_near (Mark mk) p r s = mark_near mk p r s
 
   word_far : (w : Word) (p : Pos) (b : List Token) (t : Token) (r s : List Token) → let c : Token = record { word = w; pos = p } in Local t r s (read.unary_by ns n inner c (b ++ t ∷ r)) (read.unary_by ns n inner c (b ++ t ∷ s))
   word_far (Name w) p b t r s = (a_place_fine ns n inner deeper).local (word w p ∷ b) t r s
   word_far (Number v u l d) p b t r s = Local.got b
-  word_far (Key j) p b t r s = Local.stuck
+  word_far (Key j) p b t r s = Local.stuck (key j p ∷ b)
   word_far (Mark mk) p b t r s = mark_far mk p b t r s
 
   unary_shrinks : (ts : List Token) → Shrinks 0 ts (read.unary ns n inner ts)
   unfolding read.unary
-  unary_shrinks [] = Shrinks.stuck
+  unary_shrinks [] = Shrinks.stuck [] refl
   unary_shrinks (t ∷ ts) = word_shrinks t.word t.pos ts
 
   unary_local : (b : List Token) (t : Token) (r s : List Token) → Local t r s (read.unary ns n inner (b ++ t ∷ r)) (read.unary ns n inner (b ++ t ∷ s))
@@ -389,18 +428,35 @@ module _ (ns : Names) (n : ℕ) (inner : Inner) (deeper : (i : ℕ) → n ≡ su
   star_whole : (p : Pos) (us ts : List Token) → Shrinks 0 ts (variable ns us) → Shrinks 0 ts (read.whole ns n inner (mark m.Star p ∷ us))
   star_whole p us ts v = front_whole (mark m.Star p ∷ us) ts (star_unary p us ts v)
 
-  pub declr_gone : (t : Token) (us : List Token) → Shrinks 0 us (read.declr ns n inner (t ∷ us))
+  -- no name behind it
+  stuck_ranked : (l : ℕ) (us vs : List Token) → read.unary ns n inner us ≡ Stuck vs → read.ranked ns n inner l us ≡ Stuck vs
+  unfolding read.ranked read.chain
+  stuck_ranked zero us vs h = h
+  stuck_ranked (suc l) us vs h = rw (stuck_ranked l us vs h) refl
+
+  stuck_whole : (us vs : List Token) → read.unary ns n inner us ≡ Stuck vs → read.whole ns n inner us ≡ Stuck vs
+  unfolding read.whole
+  stuck_whole us vs h = rw (stuck_ranked loosest us vs h) refl
+
+  no_star_unary : (p : Pos) (us : List Token) → variable ns us ≡ Stuck us → read.unary ns n inner (mark m.Star p ∷ us) ≡ Stuck us
+  unfolding read.unary read.a_place read.place mark_at read.star expect same_mark
+  no_star_unary p us v = rw v refl
+
+  no_star_whole : (p : Pos) (us : List Token) → variable ns us ≡ Stuck us → read.whole ns n inner (mark m.Star p ∷ us) ≡ Stuck us
+  no_star_whole p us v = stuck_whole (mark m.Star p ∷ us) us (no_star_unary p us v)
+
+  pub declr_gone : (w : List ℕ) (p : Pos) (us : List Token) → Shrinks 0 us (read.declr ns n inner (word w p ∷ us))
   unfolding read.declr
-  declr_gone t us = shrink_then {j = 0} {k = 0} 0 (omega arith) (λ x. (fine_then (fine_many (sees m.OpenBracket) (sees_ahead m.OpenBracket) (a_bound_fine ns n inner deeper)) (λ bs. fine_pure (tree.declr x bs))).shrinks) us (any_name_gone t us)
+  declr_gone w p us = shrink_then {j = 0} {k = 0} 0 (omega arith) (λ x. (fine_then (fine_many (sees m.OpenBracket) (sees_ahead m.OpenBracket) (a_bound_fine ns n inner deeper)) (λ bs. fine_pure (tree.declr x bs))).shrinks) us (any_name_gone w p us)
 
   -- a name at the front
-  pub name_place : (w : List ℕ) (p : Pos) (us : List Token) → Shrinks 0 us (read.place ns n inner (word w p ∷ us))
+  pub name_place : (w : List ℕ) (p : Pos) (us : List Token) → is_type_name ns w ≡ false → Shrinks 0 us (read.place ns n inner (word w p ∷ us))
   unfolding read.place mark_at read.by_name
-  name_place w p us = shrink_then {j = 0} {k = 0} 0 (omega arith) (λ x. (fine_then (steps_fine ns n inner deeper) (λ ss. fine_pure (tree.place (at.Name x) ss))).shrinks) us (variable_gone ns (word w p) us)
+  name_place w p us h = shrink_then {j = 0} {k = 0} 0 (omega arith) (λ x. (fine_then (steps_fine ns n inner deeper) (λ ss. fine_pure (tree.place (at.Name x) ss))).shrinks) us (variable_gone ns w p us h)
 
-  pub name_whole : (w : List ℕ) (p : Pos) (us : List Token) → Shrinks 0 us (read.whole ns n inner (word w p ∷ us))
+  pub name_whole : (w : List ℕ) (p : Pos) (us : List Token) → is_type_name ns w ≡ false → Shrinks 0 us (read.whole ns n inner (word w p ∷ us))
   unfolding read.unary read.a_place
-  name_whole w p us = front_whole (word w p ∷ us) us (shrink_then {j = 0} {k = 0} 0 (omega arith) (λ x. (fine_pure (e.Place x)).shrinks) us (name_place w p us))
+  name_whole w p us h = front_whole (word w p ∷ us) us (shrink_then {j = 0} {k = 0} 0 (omega arith) (λ x. (fine_pure (e.Place x)).shrinks) us (name_place w p us h))
 
   pub void_type : (p : Pos) (us : List Token) → Shrinks 0 us (read.specifiers ns n inner (key k.Void p ∷ us))
   unfolding read.specifiers while_from read.sees_qualifier key_at read.base
@@ -412,4 +468,4 @@ inside_fine ns zero i h = cc
 inside_fine ns (suc n) i h =
     let below = inside_fine ns n in
     let inner = inside ns n in
-    record { whole = whole_fine ns n inner below; unary = unary_fine ns n inner below; specifiers = specifiers_fine ns n inner below; fields = fields_fine ns n inner below; star = star_whole ns n inner below }
+    record { whole = whole_fine ns n inner below; unary = unary_fine ns n inner below; specifiers = specifiers_fine ns n inner below; fields = fields_fine ns n inner below; star = star_whole ns n inner below; no_star = no_star_whole ns n inner below }

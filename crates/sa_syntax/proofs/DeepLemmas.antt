@@ -4,24 +4,25 @@ use Rattle.sa_base.specs.declared.pos.Pos.{Pos}
 use Rattle.sa_tokens.specs.declared.punct.Punct.{Punct}
 use Rattle.sa_tokens.specs.declared.punct.Punct.TheVariants as m
 use Rattle.sa_tokens.specs.declared.token.Token.{Token}
-use Rattle.sa_syntax.specs.Words.{Names}
+use Rattle.sa_syntax.specs.Words.{Names, word, is_type_name}
 use Rattle.sa_syntax.specs.Reading.{Read, Got, Stuck, Deep, Parser, and_then, is_mark, sees, after, expect, opens_any, opens, name_at, taken, any_name, unless_type, variable, key_at, mark_at, turns, while_from, many, ◌>>=◌, ◌>>◌, pure, refuse}
 use Rattle.sa_syntax.specs.ReadStmt.{takes, list_from, list, within}
 
 -- what is left, or the tokens from the refused one, is behind what was read
 pub data Shrinks {A : Type 0} (k : ℕ) (ts : List Token) : Read A → Type 0 where
   got : {a : A} {us : List Token} → (xs : List Token) → ts ≡ xs ++ us → k ≤ length xs → Shrinks k ts (Got a us)
-  stuck : {us : List Token} → Shrinks k ts (Stuck us)
+  stuck : {us : List Token} → (xs : List Token) → ts ≡ xs ++ us → Shrinks k ts (Stuck us)
   deep : {t : Token} {us : List Token} → (xs : List Token) → ts ≡ xs ++ t ∷ us → Shrinks k ts (Deep (t ∷ us))
 
 -- the answers on two texts that are the same up to the token `t`, and then `r` and `s`
 pub data Local {A : Type 0} (t : Token) (r s : List Token) : Read A → Read A → Type 0 where
   got : {a : A} (b : List Token) → Local t r s (Got a (b ++ t ∷ r)) (Got a (b ++ t ∷ s))
   deep : (b : List Token) → Local t r s (Deep (b ++ t ∷ r)) (Deep (b ++ t ∷ s))
+  stuck : (b : List Token) → Local t r s (Stuck (b ++ t ∷ r)) (Stuck (b ++ t ∷ s))
   -- the token is behind
   gone : {a : A} {us : List Token} {y : Read A} → length us ≤ length r → Local t r s (Got a us) y
   gone_deep : {us : List Token} {y : Read A} → length us ≤ length r → Local t r s (Deep us) y
-  stuck : {us : List Token} {y : Read A} → Local t r s (Stuck us) y
+  gone_stuck : {us : List Token} {y : Read A} → length us ≤ length r → Local t r s (Stuck us) y
 
 pub record Fine {A : Type 0} (k : ℕ) (p : Parser A) : Type 0 where
   pub shrinks : (ts : List Token) → Shrinks k ts (p ts)
@@ -36,7 +37,7 @@ pub behind : {A : Type 0} {k : ℕ} {x : Read A} (i : ℕ) (ts xs us : List Toke
 behind {k = k} i ts xs us e h (Shrinks.got {us = vs} ys f l) =
     let n : length (xs ++ ys) ≡ length xs + length ys = length-append xs ys in
     Shrinks.got (xs ++ ys) (e ∙ ap (λ z. xs ++ z) f ∙ sym (append_assoc xs ys _)) (omega (arith, n, h, l))
-behind i ts xs us e h Shrinks.stuck = Shrinks.stuck
+behind i ts xs us e h (Shrinks.stuck ys f) = Shrinks.stuck (xs ++ ys) (e ∙ ap (λ z. xs ++ z) f ∙ sym (append_assoc xs ys _))
 behind i ts xs us e h (Shrinks.deep ys f) = Shrinks.deep (xs ++ ys) (e ∙ ap (λ z. xs ++ z) f ∙ sym (append_assoc xs ys _))
 
 pub beyond : {A : Type 0} {k : ℕ} {x y : Read A} {t : Token} {r s : List Token} (us : List Token) → length us ≤ length r → Shrinks k us x → Local t r s x y
@@ -44,7 +45,10 @@ beyond {r = r} us h (Shrinks.got {us = vs} xs e l) =
     let n : length us ≡ length (xs ++ vs) = ap length e in
     let l : length (xs ++ vs) ≡ length xs + length vs = length-append xs vs in
     Local.gone (omega (arith, n, l, h))
-beyond us h Shrinks.stuck = Local.stuck
+beyond {r = r} us h (Shrinks.stuck {us = vs} xs e) =
+    let n : length us ≡ length (xs ++ vs) = ap length e in
+    let l : length (xs ++ vs) ≡ length xs + length vs = length-append xs vs in
+    Local.gone_stuck (omega (arith, n, l, h))
 beyond {r = r} us h (Shrinks.deep {t = t} {us = vs} xs e) =
     let n : length us ≡ length (xs ++ t ∷ vs) = ap length e in
     let l : length (xs ++ t ∷ vs) ≡ length xs + length (t ∷ vs) = length-append xs (t ∷ vs) in
@@ -52,7 +56,7 @@ beyond {r = r} us h (Shrinks.deep {t = t} {us = vs} xs e) =
 
 pub loosen_read : {A : Type 0} {k : ℕ} {ts : List Token} {x : Read A} → Shrinks k ts x → Shrinks 0 ts x
 loosen_read (Shrinks.got xs e l) = Shrinks.got xs e (omega arith)
-loosen_read Shrinks.stuck = Shrinks.stuck
+loosen_read (Shrinks.stuck xs e) = Shrinks.stuck xs e
 loosen_read (Shrinks.deep xs e) = Shrinks.deep xs e
 
 pub loosen : {A : Type 0} {k : ℕ} {p : Parser A} → Fine k p → Fine 0 p
@@ -61,7 +65,7 @@ loosen f = record { shrinks = λ ts. loosen_read (f.shrinks ts); local = f.local
 -- ---- one after the other
 pub shrink_then : {A B : Type 0} {j k : ℕ} (i : ℕ) → i ≤ j + k → {f : A → Parser B} → ((a : A) (us : List Token) → Shrinks k us (f a us)) → (ts : List Token) {x : Read A} → Shrinks j ts x → Shrinks i ts (and_then x f)
 shrink_then i h go ts (Shrinks.got {a} {us} xs e l) = behind i ts xs us e (omega (arith, h, l)) (go a us)
-shrink_then i h go ts Shrinks.stuck = Shrinks.stuck
+shrink_then i h go ts (Shrinks.stuck xs e) = Shrinks.stuck xs e
 shrink_then i h go ts (Shrinks.deep xs e) = Shrinks.deep xs e
 
 local_then : {A B : Type 0} {k : ℕ} {f : A → Parser B} → ((a : A) → Fine k (f a)) → {t : Token} {r s : List Token} {x y : Read A} → Local t r s x y → Local t r s (and_then x f) (and_then y f)
@@ -69,7 +73,8 @@ local_then go {t} {r} {s} (Local.got {a} b) = (go a).local b t r s
 local_then go (Local.deep b) = Local.deep b
 local_then go (Local.gone {a} {us} h) = beyond us h ((go a).shrinks us)
 local_then go (Local.gone_deep h) = Local.gone_deep h
-local_then go Local.stuck = Local.stuck
+local_then go (Local.gone_stuck h) = Local.gone_stuck h
+local_then go (Local.stuck b) = Local.stuck b
 
 fine_both : {A B : Type 0} {j k : ℕ} (i : ℕ) → i ≤ j + k → {p : Parser A} {f : A → Parser B} → Fine j p → ((a : A) → Fine k (f a)) → Fine i (p >>= f)
 fine_both i h one go = record { shrinks = λ ts. shrink_then i h (λ a. (go a).shrinks) ts (one.shrinks ts); local = λ b t r s. local_then go (one.local b t r s) }
@@ -87,7 +92,7 @@ pub fine_pure : {A : Type 0} (a : A) → Fine 0 (pure a)
 fine_pure a = record { shrinks = λ ts. Shrinks.got [] refl (omega arith); local = λ b t r s. Local.got b }
 
 pub fine_refuse : {A : Type 0} (k : ℕ) → Fine {A = A} k refuse
-fine_refuse k = record { shrinks = λ ts. Shrinks.stuck; local = λ b t r s. Local.stuck }
+fine_refuse k = record { shrinks = λ ts. Shrinks.stuck [] refl; local = λ b t r s. Local.stuck b }
 
 -- ---- by the first token
 pub fine_ahead : {A B : Type 0} {k : ℕ} (h : List Token → B) → Ahead h → (g : B → Parser A) → ((x : B) → Fine k (g x)) → Fine k (λ ts. g (h ts) ts)
@@ -122,7 +127,7 @@ taking : {A : Type 0} {p : Parser A} → ((t : Token) (ts : List Token) → Shri
 taking {A} {p} one none far near = record { shrinks = shrinks; local = local }
   where
     shrinks : (ts : List Token) → Shrinks 1 ts (p ts)
-    shrinks [] = subst (λ (x : Read A). Shrinks 1 [] x) (sym none) Shrinks.stuck
+    shrinks [] = subst (λ (x : Read A). Shrinks 1 [] x) (sym none) (Shrinks.stuck [] refl)
     shrinks (t ∷ ts) = one t ts
 
     local : (b : List Token) (t : Token) (r s : List Token) → Local t r s (p (b ++ t ∷ r)) (p (b ++ t ∷ s))
@@ -133,21 +138,21 @@ pub fine_takes : Fine 1 takes
 fine_takes = taking (λ t ts. Shrinks.got (t ∷ []) refl (omega arith)) refl (λ c b t r s. Local.got b) (λ t r s. Local.gone (omega arith))
 
 taken_shrinks : {A : Type 0} (o : Option A) (t : Token) (ts : List Token) → Shrinks 1 (t ∷ ts) (taken o (t ∷ ts))
-taken_shrinks None t ts = Shrinks.stuck
+taken_shrinks None t ts = Shrinks.stuck [] refl
 taken_shrinks (Some a) t ts = Shrinks.got (t ∷ []) refl (omega arith)
 
 taken_far : {A : Type 0} (o : Option A) (c : Token) (b : List Token) (t : Token) (r s : List Token) → Local t r s (taken o (c ∷ b ++ t ∷ r)) (taken o (c ∷ b ++ t ∷ s))
-taken_far None c b t r s = Local.stuck
+taken_far None c b t r s = Local.stuck (c ∷ b)
 taken_far (Some a) c b t r s = Local.got b
 
-taken_near : {A : Type 0} (o : Option A) (t : Token) (r : List Token) {s : List Token} {y : Read A} → Local t r s (taken o (t ∷ r)) y
-taken_near None t r = Local.stuck
-taken_near (Some a) t r = Local.gone (omega arith)
+taken_near : {A : Type 0} (o : Option A) (t : Token) (r s : List Token) → Local t r s (taken o (t ∷ r)) (taken o (t ∷ s))
+taken_near None t r s = Local.stuck []
+taken_near (Some a) t r s = Local.gone (omega arith)
 
 pub fine_taken : {A : Type 0} (h : List Token → Option A) → Ahead h → h [] ≡ None → Fine 1 (λ ts. taken (h ts) ts)
 fine_taken {A} h same none = taking (λ t ts. taken_shrinks (h (t ∷ ts)) t ts) (ap (λ o. taken o []) none)
     (λ c b t r s. subst (λ (o : Option A). Local t r s (taken (h (c ∷ b ++ t ∷ r)) (c ∷ b ++ t ∷ r)) (taken o (c ∷ b ++ t ∷ s))) (same c (b ++ t ∷ r) (b ++ t ∷ s)) (taken_far (h (c ∷ b ++ t ∷ r)) c b t r s))
-    (λ t r s. taken_near (h (t ∷ r)) t r)
+    (λ t r s. subst (λ (o : Option A). Local t r s (taken (h (t ∷ r)) (t ∷ r)) (taken o (t ∷ s))) (same t r s) (taken_near (h (t ∷ r)) t r s))
 
 pub fine_any_name : Fine 1 any_name
 unfolding any_name name_at
@@ -157,33 +162,29 @@ pub fine_variable : (ns : Names) → Fine 1 (variable ns)
 unfolding variable name_at
 fine_variable ns = fine_taken (λ ts. unless_type ns (name_at ts)) (λ t r s. refl) refl
 
-taken_gone : {A : Type 0} (o : Option A) (t : Token) (ts : List Token) → Shrinks 0 ts (taken o (t ∷ ts))
-taken_gone None t ts = Shrinks.stuck
-taken_gone (Some a) t ts = Shrinks.got [] refl (omega arith)
+pub variable_gone : (ns : Names) (w : List ℕ) (p : Pos) (ts : List Token) → is_type_name ns w ≡ false → Shrinks 0 ts (variable ns (word w p ∷ ts))
+unfolding variable name_at
+variable_gone ns w p ts h = rw h (Shrinks.got [] refl (omega arith))
 
-pub variable_gone : (ns : Names) (t : Token) (ts : List Token) → Shrinks 0 ts (variable ns (t ∷ ts))
-unfolding variable
-variable_gone ns t ts = taken_gone (unless_type ns (name_at (t ∷ ts))) t ts
-
-pub any_name_gone : (t : Token) (ts : List Token) → Shrinks 0 ts (any_name (t ∷ ts))
-unfolding any_name
-any_name_gone t ts = taken_gone (name_at (t ∷ ts)) t ts
+pub any_name_gone : (w : List ℕ) (p : Pos) (ts : List Token) → Shrinks 0 ts (any_name (word w p ∷ ts))
+unfolding any_name name_at
+any_name_gone w p ts = Shrinks.got [] refl (omega arith)
 
 expect_shrinks : (x : Bool) (t : Token) (ts : List Token) → Shrinks 1 (t ∷ ts) (cond x (Got t.pos ts) (Stuck (t ∷ ts)))
 expect_shrinks true t ts = Shrinks.got (t ∷ []) refl (omega arith)
-expect_shrinks false t ts = Shrinks.stuck
+expect_shrinks false t ts = Shrinks.stuck [] refl
 
 expect_far : (x : Bool) (c : Token) (b : List Token) (t : Token) (r s : List Token) → Local t r s (cond x (Got c.pos (b ++ t ∷ r)) (Stuck (c ∷ b ++ t ∷ r))) (cond x (Got c.pos (b ++ t ∷ s)) (Stuck (c ∷ b ++ t ∷ s)))
 expect_far true c b t r s = Local.got b
-expect_far false c b t r s = Local.stuck
+expect_far false c b t r s = Local.stuck (c ∷ b)
 
-expect_near : (x : Bool) (t : Token) (r : List Token) {s : List Token} {y : Read Pos} → Local t r s (cond x (Got t.pos r) (Stuck (t ∷ r))) y
-expect_near true t r = Local.gone (omega arith)
-expect_near false t r = Local.stuck
+expect_near : (x : Bool) (t : Token) (r s : List Token) → Local t r s (cond x (Got t.pos r) (Stuck (t ∷ r))) (cond x (Got t.pos s) (Stuck (t ∷ s)))
+expect_near true t r s = Local.gone (omega arith)
+expect_near false t r s = Local.stuck []
 
 pub fine_expect : (m : Punct) → Fine 1 (expect m)
 unfolding expect
-fine_expect m = taking (λ t ts. expect_shrinks (is_mark m t.word) t ts) refl (λ c b t r s. expect_far (is_mark m c.word) c b t r s) (λ t r s. expect_near (is_mark m t.word) t r)
+fine_expect m = taking (λ t ts. expect_shrinks (is_mark m t.word) t ts) refl (λ c b t r s. expect_far (is_mark m c.word) c b t r s) (λ t r s. expect_near (is_mark m t.word) t r s)
 
 pub fine_opens_any : (n : ℕ) → Fine 1 (opens_any n)
 unfolding opens_any
@@ -232,7 +233,7 @@ shrink_cond false one other = other
 
 shrink_while : {A : Type 0} (goes : List Token → Bool) (item : Parser A) → Fine 1 item → (n : ℕ) (found : List A) (ts : List Token) → Shrinks 0 ts (while_from goes item n found ts)
 unfolding while_from
-shrink_while goes item one zero found ts = Shrinks.stuck
+shrink_while goes item one zero found ts = Shrinks.stuck [] refl
 shrink_while goes item one (suc n) found ts = shrink_cond (goes ts)
     (shrink_then {k = 0} 0 (omega arith) (λ x us. shrink_while goes item one n (found ++ x ∷ []) us) ts (one.shrinks ts)) (Shrinks.got [] refl (omega arith))
 
@@ -254,7 +255,8 @@ turn f g k go one (Local.got {a} c) l = go a c (shorter l)
 turn f g k go one (Local.deep c) l = Local.deep c
 turn f g k go one (Local.gone {a} {us} h) l = beyond us h (one a us)
 turn f g k go one (Local.gone_deep h) l = Local.gone_deep h
-turn f g k go one Local.stuck l = Local.stuck
+turn f g k go one (Local.gone_stuck h) l = Local.gone_stuck h
+turn f g k go one (Local.stuck c) l = Local.stuck c
 
 pub local_cond : {A : Type 0} {t : Token} {r s : List Token} {x y x' y' : Read A} (b c : Bool) → b ≡ c → Local t r s x x' → Local t r s y y' → Local t r s (cond b x y) (cond c x' y')
 local_cond true true e one other = one
@@ -262,17 +264,26 @@ local_cond false false e one other = other
 local_cond true false e one other = cc
 local_cond false true e one other = cc
 
-local_while : {A : Type 0} (goes : List Token → Bool) → Ahead goes → (item : Parser A) → Fine 1 item → (n more : ℕ) (found : List A) (b : List Token) (t : Token) (r s : List Token) → length (b ++ t ∷ s) < more
+-- the lists before the token are as much shorter on either text
+pub as_short : (c b : List Token) (t : Token) (r s : List Token) (j k : ℕ) → length (c ++ t ∷ s) + j ≤ length (b ++ t ∷ s) + k → length (c ++ t ∷ r) + j ≤ length (b ++ t ∷ r) + k
+as_short c b t r s j k h =
+    let one : length (c ++ t ∷ s) ≡ length c + length (t ∷ s) = length-append c (t ∷ s) in
+    let two : length (b ++ t ∷ s) ≡ length b + length (t ∷ s) = length-append b (t ∷ s) in
+    let three : length (c ++ t ∷ r) ≡ length c + length (t ∷ r) = length-append c (t ∷ r) in
+    let four : length (b ++ t ∷ r) ≡ length b + length (t ∷ r) = length-append b (t ∷ r) in
+    omega (arith, one, two, three, four, h)
+
+local_while : {A : Type 0} (goes : List Token → Bool) → Ahead goes → (item : Parser A) → Fine 1 item → (n more : ℕ) (found : List A) (b : List Token) (t : Token) (r s : List Token) → length (b ++ t ∷ r) < n → length (b ++ t ∷ s) < more
     → Local t r s (while_from goes item n found (b ++ t ∷ r)) (while_from goes item more found (b ++ t ∷ s))
 unfolding while_from
-local_while goes same item one zero more found b t r s h = Local.stuck
-local_while goes same item one (suc n) zero found b t r s h = absurd (omega arith)
-local_while goes same item one (suc n) (suc more) found b t r s h = local_cond (goes (b ++ t ∷ r)) (goes (b ++ t ∷ s)) (same_first goes same b t r s)
-    (turn _ _ 1 (λ a c g. local_while goes same item one n more (found ++ a ∷ []) c t r s (omega (arith, g, h))) (λ a us. shrink_while goes item one n (found ++ a ∷ []) us) (one.local b t r s) (one.shrinks (b ++ t ∷ s)))
+local_while goes same item one zero more found b t r s i h = absurd (omega arith)
+local_while goes same item one (suc n) zero found b t r s i h = absurd (omega arith)
+local_while goes same item one (suc n) (suc more) found b t r s i h = local_cond (goes (b ++ t ∷ r)) (goes (b ++ t ∷ s)) (same_first goes same b t r s)
+    (turn _ _ 1 (λ a c g. let l = as_short c b t r s 1 0 (omega (arith, g)) in local_while goes same item one n more (found ++ a ∷ []) c t r s (omega (arith, l, i)) (omega (arith, g, h))) (λ a us. shrink_while goes item one n (found ++ a ∷ []) us) (one.local b t r s) (one.shrinks (b ++ t ∷ s)))
     (Local.got b)
 
 pub fine_many : {A : Type 0} (goes : List Token → Bool) → Ahead goes → {item : Parser A} → Fine 1 item → Fine 0 (many goes item)
-fine_many goes same {item} one = record { shrinks = λ ts. shrink_while goes item one (turns ts) [] ts; local = λ b t r s. local_while goes same item one (turns (b ++ t ∷ r)) (turns (b ++ t ∷ s)) [] b t r s (omega arith) }
+fine_many goes same {item} one = record { shrinks = λ ts. shrink_while goes item one (turns ts) [] ts; local = λ b t r s. local_while goes same item one (turns (b ++ t ∷ r)) (turns (b ++ t ∷ s)) [] b t r s (omega arith) (omega arith) }
 
 -- with a mark after each
 pub shrink_after : {A : Type 0} {k : ℕ} (ts : List Token) {x : Read A} → Shrinks k (after ts) x → Shrinks 0 ts x
@@ -284,7 +295,7 @@ ends_fine close a = fine_then (fine_expect close) (λ p. fine_pure a)
 
 shrink_list : {A : Type 0} {k : ℕ} (close : Punct) (one : Parser A) → Fine k one → (n : ℕ) (found : List A) (ts : List Token) → Shrinks k ts (list_from close one n found ts)
 unfolding list_from
-shrink_list close one fine zero found ts = Shrinks.stuck
+shrink_list close one fine zero found ts = Shrinks.stuck [] refl
 shrink_list {k = k} close one fine (suc n) found ts = shrink_then {j = k} {k = 0} k (omega arith)
     (λ x us. shrink_cond (sees m.Comma us) (shrink_after us (shrink_list close one fine n (found ++ x ∷ []) (after us))) ((ends_fine close (found ++ x ∷ [])).shrinks us)) ts (fine.shrinks ts)
 
@@ -293,22 +304,25 @@ local_after : {A : Type 0} (p q : Parser A) (t : Token) (r s : List Token) → S
 local_after p q t r s one [] go = beyond r (omega arith) one
 local_after p q t r s one (d ∷ b) go = go d b refl
 
-local_list : {A : Type 0} {k : ℕ} (close : Punct) (one : Parser A) → Fine k one → (n more : ℕ) (found : List A) (b : List Token) (t : Token) (r s : List Token) → length (b ++ t ∷ s) < more
+local_list : {A : Type 0} {k : ℕ} (close : Punct) (one : Parser A) → Fine k one → (n more : ℕ) (found : List A) (b : List Token) (t : Token) (r s : List Token) → length (b ++ t ∷ r) < n → length (b ++ t ∷ s) < more
     → Local t r s (list_from close one n found (b ++ t ∷ r)) (list_from close one more found (b ++ t ∷ s))
 unfolding list_from
-local_list close one fine zero more found b t r s h = Local.stuck
-local_list close one fine (suc n) zero found b t r s h = absurd (omega arith)
-local_list {k = k} close one fine (suc n) (suc more) found b t r s h =
+local_list close one fine zero more found b t r s j h = absurd (omega arith)
+local_list close one fine (suc n) zero found b t r s j h = absurd (omega arith)
+local_list {k = k} close one fine (suc n) (suc more) found b t r s j h =
     turn _ _ k
     (λ x c g. local_cond (sees m.Comma (c ++ t ∷ r)) (sees m.Comma (c ++ t ∷ s)) (same_first (sees m.Comma) (sees_ahead m.Comma) c t r s)
     (local_after (list_from close one n (found ++ x ∷ [])) (list_from close one more (found ++ x ∷ [])) t r s (loosen_read (shrink_list close one fine n (found ++ x ∷ []) r)) c
-    (λ d e i. let l : length (c ++ t ∷ s) ≡ length (d ∷ e ++ t ∷ s) = ap (λ z. length (z ++ t ∷ s)) i in local_list close one fine n more (found ++ x ∷ []) e t r s (omega (arith, g, h, l))))
+    (λ d e i. let l : length (c ++ t ∷ s) ≡ length (d ∷ e ++ t ∷ s) = ap (λ z. length (z ++ t ∷ s)) i in
+    let m : length (c ++ t ∷ r) ≡ length (d ∷ e ++ t ∷ r) = ap (λ z. length (z ++ t ∷ r)) i in
+    let o = as_short c b t r s k 0 (omega (arith, g)) in
+    local_list close one fine n more (found ++ x ∷ []) e t r s (omega (arith, o, j, m)) (omega (arith, g, h, l))))
     ((ends_fine close (found ++ x ∷ [])).local c t r s))
     (λ x us. shrink_cond (sees m.Comma us) (shrink_after us (shrink_list close one fine n (found ++ x ∷ []) (after us))) ((ends_fine close (found ++ x ∷ [])).shrinks us))
     (fine.local b t r s) (fine.shrinks (b ++ t ∷ s))
 
 pub fine_list : {A : Type 0} {k : ℕ} (close : Punct) {one : Parser A} → Fine k one → Fine k (list close one)
-fine_list close {one} fine = record { shrinks = λ ts. shrink_list close one fine (turns ts) [] ts; local = λ b t r s. local_list close one fine (turns (b ++ t ∷ r)) (turns (b ++ t ∷ s)) [] b t r s (omega arith) }
+fine_list close {one} fine = record { shrinks = λ ts. shrink_list close one fine (turns ts) [] ts; local = λ b t r s. local_list close one fine (turns (b ++ t ∷ r)) (turns (b ++ t ∷ s)) [] b t r s (omega arith) (omega arith) }
 
 -- what the first item takes is taken
 pub list_front : {A : Type 0} {k : ℕ} (close : Punct) (one : Parser A) → Fine k one → (ts us : List Token) → Shrinks 0 us (one ts) → Shrinks 0 us (list close one ts)

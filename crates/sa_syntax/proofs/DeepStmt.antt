@@ -1,5 +1,5 @@
 -- Statements and sources are read the same up to a token, whatever follows it.
-use Rattle.std.proofs.Common.{◌≡◌, ℕ, zero, suc, ◌-◌, ◌<◌, List, [], ◌∷◌, ◌++◌, Bool, true, false, cond, refl, ap, arith, length, ◌⊎◌, inl, inr, Option, Some, None}
+use Rattle.std.proofs.Common.{◌≡◌, ℕ, zero, suc, ◌-◌, ◌<◌, List, [], ◌∷◌, ◌++◌, Bool, true, false, cond, refl, sym, ◌∙◌, ap, arith, length, ◌⊎◌, inl, inr, Option, Some, None}
 use Rattle.std.specs.Prelude.{◌&&◌}
 use Rattle.sa_base.specs.declared.pos.Pos.{Pos}
 use Rattle.sa_tokens.specs.declared.keyword.Keyword.{Keyword}
@@ -31,12 +31,12 @@ use Rattle.sa_syntax.specs.declared.stmt.Stmt.{Stmt}
 use Rattle.sa_syntax.specs.declared.stmt.Stmt.TheVariants as s
 use Rattle.sa_syntax.specs.declared.stmt.BlockItem.TheVariants as item
 use Rattle.sa_syntax.specs.Trees as tree
-use Rattle.sa_syntax.specs.Words.{Names, mark, word, begins_with_star, begins_with_else, begins_with_label}
+use Rattle.sa_syntax.specs.Words.{Names, mark, word, is_type_name, begins_with_star, begins_with_else, begins_with_label}
 use Rattle.sa_syntax.specs.Reading.{Parser, Stuck, Deep, same_mark, sees, after, expect, opens, name_at, key_at, mark_at, turns, pure, ◌>>=◌, ◌>>◌}
 use Rattle.sa_syntax.specs.ReadExpr.{begins_type, inside}
 use Rattle.sa_syntax.specs.ReadStmt as read
 use Rattle.sa_syntax.specs.ReadStmt.{Bodies, takes, within, list}
-use Rattle.sa_syntax.proofs.DeepLemmas.{Shrinks, Local, Fine, Ahead, loosen, loosen_read, shrink_then, shrink_cond, turn, local_cond, same_first, ends_fine, variable_gone, fine_then, fine_first, fine_next, fine_pure, fine_refuse, fine_ahead, fine_if, fine_after, fine_takes, fine_variable, fine_expect, fine_opens_then, fine_many, fine_list, fine_within, fine_look, sees_ahead, key_ahead, mark_ahead}
+use Rattle.sa_syntax.proofs.DeepLemmas.{Shrinks, Local, Fine, Ahead, loosen, loosen_read, shrink_then, shrink_cond, turn, local_cond, same_first, ends_fine, variable_gone, as_short, fine_then, fine_first, fine_next, fine_pure, fine_refuse, fine_ahead, fine_if, fine_after, fine_takes, fine_variable, fine_expect, fine_opens_then, fine_many, fine_list, fine_within, fine_look, sees_ahead, key_ahead, mark_ahead}
 use Rattle.sa_syntax.proofs.DeepExpr as fine
 use Rattle.sa_syntax.proofs.DeepExpr.{inside_fine, type_ahead, place_ahead}
 
@@ -54,10 +54,10 @@ module _ (ns : Names) (n : ℕ) where
   pub declr_fine : Fine 1 (read.declr ns n)
   declr_fine = fine.declr_fine ns n (inside ns n) (inside_fine ns n)
 
-  name_expr : (w : List ℕ) (p : Pos) (us : List Token) → Shrinks 0 us (read.expr ns n (word w p ∷ us))
+  name_expr : (w : List ℕ) (p : Pos) (us : List Token) → is_type_name ns w ≡ false → Shrinks 0 us (read.expr ns n (word w p ∷ us))
   name_expr = fine.name_whole ns n (inside ns n) (inside_fine ns n)
 
-  name_place : (w : List ℕ) (p : Pos) (us : List Token) → Shrinks 0 us (read.place ns n (word w p ∷ us))
+  name_place : (w : List ℕ) (p : Pos) (us : List Token) → is_type_name ns w ≡ false → Shrinks 0 us (read.place ns n (word w p ∷ us))
   name_place = fine.name_place ns n (inside ns n) (inside_fine ns n)
 
 -- ---- initialisers
@@ -76,23 +76,23 @@ inits_end found = ends_fine m.CloseBrace found
 
 shrink_inits : (one : Parser Init) → Fine 0 one → (n : ℕ) (found : List Init) (ts : List Token) → Shrinks 0 ts (read.inits_from one n found ts)
 unfolding read.inits_from
-shrink_inits one each zero found ts = Shrinks.stuck
+shrink_inits one each zero found ts = Shrinks.stuck [] refl
 shrink_inits one each (suc n) found ts =
     shrink_then {j = 0} {k = 0} 0 (omega arith) (λ i us. shrink_reader _ _ (sees m.Comma us) us
     (shrink_then {j = 1} {k = 0} 0 (omega arith) (λ p vs. shrink_reader _ _ (sees m.CloseBrace vs) vs ((inits_end (found ++ i ∷ [])).shrinks vs) (shrink_inits one each n (found ++ i ∷ []) vs)) us ((fine_expect m.Comma).shrinks us))
     ((inits_end (found ++ i ∷ [])).shrinks us)) ts (each.shrinks ts)
 
-local_inits : (one : Parser Init) → Fine 0 one → (n more : ℕ) (found : List Init) (b : List Token) (t : Token) (r s : List Token) → length (b ++ t ∷ s) < more
+local_inits : (one : Parser Init) → Fine 0 one → (n more : ℕ) (found : List Init) (b : List Token) (t : Token) (r s : List Token) → length (b ++ t ∷ r) < n → length (b ++ t ∷ s) < more
     → Local t r s (read.inits_from one n found (b ++ t ∷ r)) (read.inits_from one more found (b ++ t ∷ s))
 unfolding read.inits_from
-local_inits one each zero more found b t r s h = Local.stuck
-local_inits one each (suc n) zero found b t r s h = absurd (omega arith)
-local_inits one each (suc n) (suc more) found b t r s h =
+local_inits one each zero more found b t r s j h = absurd (omega arith)
+local_inits one each (suc n) zero found b t r s j h = absurd (omega arith)
+local_inits one each (suc n) (suc more) found b t r s j h =
     turn _ _ 0
     (λ i c g. local_reader _ _ _ _ (sees m.Comma (c ++ t ∷ r)) (sees m.Comma (c ++ t ∷ s)) (same_first (sees m.Comma) (sees_ahead m.Comma) c t r s)
     (turn _ _ 1
     (λ p e f. local_reader _ _ _ _ (sees m.CloseBrace (e ++ t ∷ r)) (sees m.CloseBrace (e ++ t ∷ s)) (same_first (sees m.CloseBrace) (sees_ahead m.CloseBrace) e t r s)
-    ((inits_end (found ++ i ∷ [])).local e t r s) (local_inits one each n more (found ++ i ∷ []) e t r s (omega (arith, f, g, h))))
+    ((inits_end (found ++ i ∷ [])).local e t r s) (let l = as_short e b t r s 1 0 (omega (arith, f, g)) in local_inits one each n more (found ++ i ∷ []) e t r s (omega (arith, l, j)) (omega (arith, f, g, h))))
     (λ p vs. shrink_reader _ _ (sees m.CloseBrace vs) vs ((inits_end (found ++ i ∷ [])).shrinks vs) (shrink_inits one each n (found ++ i ∷ []) vs))
     ((fine_expect m.Comma).local c t r s) ((fine_expect m.Comma).shrinks (c ++ t ∷ s)))
     ((inits_end (found ++ i ∷ [])).local c t r s))
@@ -102,7 +102,7 @@ local_inits one each (suc n) (suc more) found b t r s h =
     (each.local b t r s) (each.shrinks (b ++ t ∷ s))
 
 pub inits_fine : (one : Parser Init) → Fine 0 one → Fine 0 (λ ts. read.inits_from one (turns ts) [] ts)
-inits_fine one each = record { shrinks = λ ts. shrink_inits one each (turns ts) [] ts; local = λ b t r s. local_inits one each (turns (b ++ t ∷ r)) (turns (b ++ t ∷ s)) [] b t r s (omega arith) }
+inits_fine one each = record { shrinks = λ ts. shrink_inits one each (turns ts) [] ts; local = λ b t r s. local_inits one each (turns (b ++ t ∷ r)) (turns (b ++ t ∷ s)) [] b t r s (omega arith) (omega arith) }
 
 pub braces_fine : (n : ℕ) (one : Parser Init) → ((i : ℕ) → n ≡ suc i → Fine 0 one) → Fine 1 (read.braces n one)
 unfolding read.braces
@@ -123,11 +123,11 @@ module _ (ns : Names) (n : ℕ) where
   init_declr_fine = fine_first (declr_fine ns n) (λ x.
       fine_if (sees m.Equal) (sees_ahead m.Equal) (fine_then (fine_expect m.Equal) (λ p. fine_then (init_at_fine ns n) (λ i. fine_pure (tree.init_declr x (start.Init p i))))) (fine_pure (tree.init_declr x start.Nothing)))
 
-  pub init_declr_gone : (t : Token) (us : List Token) → Shrinks 0 us (read.init_declr ns n (t ∷ us))
+  pub init_declr_gone : (w : List ℕ) (p : Pos) (us : List Token) → Shrinks 0 us (read.init_declr ns n (word w p ∷ us))
   unfolding read.init_declr
-  init_declr_gone t us = shrink_then {j = 0} {k = 0} 0 (omega arith) (λ x. (
+  init_declr_gone w p us = shrink_then {j = 0} {k = 0} 0 (omega arith) (λ x. (
       fine_if (sees m.Equal) (sees_ahead m.Equal) (fine_then (fine_expect m.Equal) (λ p. fine_then (init_at_fine ns n) (λ i. fine_pure (tree.init_declr x (start.Init p i))))) (fine_pure (tree.init_declr x start.Nothing))).shrinks) us
-      (fine.declr_gone ns n (inside ns n) (inside_fine ns n) t us)
+      (fine.declr_gone ns n (inside ns n) (inside_fine ns n) w p us)
 
   -- ---- calls
   pub arg_value_fine : Fine 0 (read.arg_value ns n)
@@ -138,21 +138,21 @@ module _ (ns : Names) (n : ℕ) where
 
   shrink_args : (left : ℕ) (p : Pos) (found : List Arg) (ts : List Token) → Shrinks 0 ts (read.args_from ns n left p found ts)
   unfolding read.args_from
-  shrink_args zero p found ts = Shrinks.stuck
+  shrink_args zero p found ts = Shrinks.stuck [] refl
   shrink_args (suc left) p found ts =
       shrink_then {j = 0} {k = 0} 0 (omega arith) (λ v us. shrink_cond (sees m.Comma us)
       (shrink_then {j = 1} {k = 0} 0 (omega arith) (λ q vs. shrink_args left q (found ++ tree.arg p v ∷ []) vs) us ((fine_expect m.Comma).shrinks us))
       ((ends_fine m.CloseParen (found ++ tree.arg p v ∷ [])).shrinks us)) ts (arg_value_fine.shrinks ts)
 
-  local_args : (left more : ℕ) (p : Pos) (found : List Arg) (b : List Token) (t : Token) (r s : List Token) → length (b ++ t ∷ s) < more
+  local_args : (left more : ℕ) (p : Pos) (found : List Arg) (b : List Token) (t : Token) (r s : List Token) → length (b ++ t ∷ r) < left → length (b ++ t ∷ s) < more
       → Local t r s (read.args_from ns n left p found (b ++ t ∷ r)) (read.args_from ns n more p found (b ++ t ∷ s))
   unfolding read.args_from
-  local_args zero more p found b t r s h = Local.stuck
-  local_args (suc left) zero p found b t r s h = absurd (omega arith)
-  local_args (suc left) (suc more) p found b t r s h =
+  local_args zero more p found b t r s j h = absurd (omega arith)
+  local_args (suc left) zero p found b t r s j h = absurd (omega arith)
+  local_args (suc left) (suc more) p found b t r s j h =
       turn _ _ 0
       (λ v c g. local_cond (sees m.Comma (c ++ t ∷ r)) (sees m.Comma (c ++ t ∷ s)) (same_first (sees m.Comma) (sees_ahead m.Comma) c t r s)
-      (turn _ _ 1 (λ q e f. local_args left more q (found ++ tree.arg p v ∷ []) e t r s (omega (arith, f, g, h))) (λ q vs. shrink_args left q (found ++ tree.arg p v ∷ []) vs)
+      (turn _ _ 1 (λ q e f. let l = as_short e b t r s 1 0 (omega (arith, f, g)) in local_args left more q (found ++ tree.arg p v ∷ []) e t r s (omega (arith, l, j)) (omega (arith, f, g, h))) (λ q vs. shrink_args left q (found ++ tree.arg p v ∷ []) vs)
       ((fine_expect m.Comma).local c t r s) ((fine_expect m.Comma).shrinks (c ++ t ∷ s)))
       ((ends_fine m.CloseParen (found ++ tree.arg p v ∷ [])).local c t r s))
       (λ v us. shrink_cond (sees m.Comma us)
@@ -163,16 +163,16 @@ module _ (ns : Names) (n : ℕ) where
   pub args_fine : (p : Pos) → Fine 0 (read.args ns p n)
   unfolding read.args
   args_fine p = fine_if (sees m.CloseParen) (sees_ahead m.CloseParen) (fine_after (fine_pure []))
-      (record { shrinks = λ ts. shrink_args (turns ts) p [] ts; local = λ b t r s. local_args (turns (b ++ t ∷ r)) (turns (b ++ t ∷ s)) p [] b t r s (omega arith) })
+      (record { shrinks = λ ts. shrink_args (turns ts) p [] ts; local = λ b t r s. local_args (turns (b ++ t ∷ r)) (turns (b ++ t ∷ s)) p [] b t r s (omega arith) (omega arith) })
 
-init_by_name : (ns : Names) (n : ℕ) (one : Parser Init) (w : List ℕ) (p : Pos) (us : List Token) → Shrinks 0 us (read.init_by ns n one (word w p ∷ us))
+init_by_name : (ns : Names) (n : ℕ) (one : Parser Init) (w : List ℕ) (p : Pos) (us : List Token) → is_type_name ns w ≡ false → Shrinks 0 us (read.init_by ns n one (word w p ∷ us))
 unfolding read.init_by sees
-init_by_name ns n one w p us = shrink_then {j = 0} {k = 0} 0 (omega arith) (λ a. (fine_pure (init.Value a)).shrinks) us (name_expr ns n w p us)
+init_by_name ns n one w p us h = shrink_then {j = 0} {k = 0} 0 (omega arith) (λ a. (fine_pure (init.Value a)).shrinks) us (name_expr ns n w p us h)
 
-init_name : (ns : Names) (n : ℕ) (w : List ℕ) (p : Pos) (us : List Token) → Shrinks 0 us (read.init_at ns n (word w p ∷ us))
+init_name : (ns : Names) (n : ℕ) (w : List ℕ) (p : Pos) (us : List Token) → is_type_name ns w ≡ false → Shrinks 0 us (read.init_at ns n (word w p ∷ us))
 unfolding read.init_at
-init_name ns zero w p us = init_by_name ns zero (λ ts. Deep ts) w p us
-init_name ns (suc n) w p us = init_by_name ns (suc n) (read.init_at ns n) w p us
+init_name ns zero w p us h = init_by_name ns zero (λ ts. Deep ts) w p us h
+init_name ns (suc n) w p us h = init_by_name ns (suc n) (read.init_at ns n) w p us h
 
 args_fine_at : (ns : Names) (p : Pos) (n : ℕ) → Fine 0 (read.args ns p n)
 args_fine_at ns p n = args_fine ns n p
@@ -184,9 +184,9 @@ module _ (ns : Names) (n : ℕ) where
   call_fine = fine_first (fine_variable ns) (λ x. fine_opens_then n m.OpenParen (λ i h p. fine_then (fine_within (read.args ns p) (λ n. args_fine_at ns p n) n i h) (λ xs. fine_pure (tree.call x xs))))
 
   -- the name is taken
-  pub call_gone : (w : List ℕ) (p : Pos) (us : List Token) → Shrinks 0 us (read.call ns n (word w p ∷ us))
+  pub call_gone : (w : List ℕ) (p : Pos) (us : List Token) → is_type_name ns w ≡ false → Shrinks 0 us (read.call ns n (word w p ∷ us))
   unfolding read.call
-  call_gone w p us = shrink_then {j = 0} {k = 0} 0 (omega arith) (λ x vs. loosen_read ((opened_fine x).shrinks vs)) us (variable_gone ns (word w p) us)
+  call_gone w p us h = shrink_then {j = 0} {k = 0} 0 (omega arith) (λ x vs. loosen_read ((opened_fine x).shrinks vs)) us (variable_gone ns w p us h)
     where
       opened_fine : (x : Named) → Fine 1 (opens n m.OpenParen >>= (λ p. within (read.args ns p) n >>= (λ xs. pure (tree.call x xs))))
       opened_fine x = fine_opens_then n m.OpenParen (λ i h p. fine_then (fine_within (read.args ns p) (λ n. args_fine_at ns p n) n i h) (λ xs. fine_pure (tree.call x xs)))
@@ -199,16 +199,25 @@ module _ (ns : Names) (n : ℕ) where
   unfolding read.sees_call name_at sees
   call_second c d r s = refl
 
+  type_call : (w : List ℕ) (at : Pos) (us : List Token) → is_type_name ns w ≡ true → read.sees_call ns (word w at ∷ us) ≡ false
+  unfolding read.sees_call name_at
+  type_call w at us h = rw h refl
+
+  name_near : {A : Type 0} (p q : Parser A) → ((w : List ℕ) (at : Pos) (us : List Token) → is_type_name ns w ≡ false → Shrinks 0 us (p (word w at ∷ us))) → ((w : List ℕ) (at : Pos) (us : List Token) → is_type_name ns w ≡ false → Shrinks 0 us (q (word w at ∷ us)))
+      → (w : List ℕ) (at : Pos) (r s : List Token) (x : Bool) → is_type_name ns w ≡ x → (read.sees_call ns (word w at ∷ r) ≡ read.sees_call ns (word w at ∷ s)) ⊎ (Shrinks 0 r (p (word w at ∷ r)) × Shrinks 0 r (q (word w at ∷ r)))
+  name_near p q one other w at r s true h = inl (type_call w at r h ∙ sym (type_call w at s h))
+  name_near p q one other w at r s false h = inr (one w at r h, other w at r h)
+
   -- where the front is a name both readers take it
-  call_near : {A : Type 0} (p q : Parser A) → ((w : List ℕ) (at : Pos) (us : List Token) → Shrinks 0 us (p (word w at ∷ us))) → ((w : List ℕ) (at : Pos) (us : List Token) → Shrinks 0 us (q (word w at ∷ us)))
+  call_near : {A : Type 0} (p q : Parser A) → ((w : List ℕ) (at : Pos) (us : List Token) → is_type_name ns w ≡ false → Shrinks 0 us (p (word w at ∷ us))) → ((w : List ℕ) (at : Pos) (us : List Token) → is_type_name ns w ≡ false → Shrinks 0 us (q (word w at ∷ us)))
       → (w : Word) (at : Pos) (r s : List Token) → let t : Token = record { word = w; pos = at } in (read.sees_call ns (t ∷ r) ≡ read.sees_call ns (t ∷ s)) ⊎ (Shrinks 0 r (p (t ∷ r)) × Shrinks 0 r (q (t ∷ r)))
   unfolding read.sees_call name_at
-  call_near p q one other (Name w) at r s = inr (one w at r, other w at r)
+  call_near p q one other (Name w) at r s = name_near p q one other w at r s (is_type_name ns w) refl
   call_near p q one other (Number v u l d) at r s = inl refl
   call_near p q one other (Key j) at r s = inl refl
   call_near p q one other (Mark mk) at r s = inl refl
 
-  pub call_or_fine : {A : Type 0} {k : ℕ} (p q : Parser A) → Fine k p → Fine k q → ((w : List ℕ) (at : Pos) (us : List Token) → Shrinks 0 us (p (word w at ∷ us))) → ((w : List ℕ) (at : Pos) (us : List Token) → Shrinks 0 us (q (word w at ∷ us)))
+  pub call_or_fine : {A : Type 0} {k : ℕ} (p q : Parser A) → Fine k p → Fine k q → ((w : List ℕ) (at : Pos) (us : List Token) → is_type_name ns w ≡ false → Shrinks 0 us (p (word w at ∷ us))) → ((w : List ℕ) (at : Pos) (us : List Token) → is_type_name ns w ≡ false → Shrinks 0 us (q (word w at ∷ us)))
       → Fine k (λ ts. cond (read.sees_call ns ts) (p ts) (q ts))
   call_or_fine p q one other gone away = fine_look (read.sees_call ns) one other call_far (λ t r s. call_near p q gone away t.word t.pos r s) (λ c t r s. inl (call_second c t r s))
 
@@ -252,15 +261,15 @@ module _ (ns : Names) (n : ℕ) where
   pub init_fine : (x : Declr) (p : Pos) → Fine 0 (read.init_at ns n >>= (λ i. pure (tree.local_declr x (begins.Init p i))))
   init_fine x p = fine_then (init_at_fine ns n) (λ i. fine_pure (tree.local_declr x (begins.Init p i)))
 
-  pub init_gone : (w : List ℕ) (p : Pos) (us : List Token) → Shrinks 0 us (read.init_at ns n (word w p ∷ us))
-  init_gone w p us = init_name ns n w p us
+  pub init_gone : (w : List ℕ) (p : Pos) (us : List Token) → is_type_name ns w ≡ false → Shrinks 0 us (read.init_at ns n (word w p ∷ us))
+  init_gone w p us h = init_name ns n w p us h
 
   pub local_start_fine : (x : Declr) → Fine 0 (read.local_start ns n x)
   unfolding read.local_start
   local_start_fine x = fine_then (fine_expect m.Equal) (λ p. call_or_fine (read.call ns n >>= (λ c. pure (tree.local_declr x (begins.Call p c)))) (read.init_at ns n >>= (λ i. pure (tree.local_declr x (begins.Init p i))))
       (fine_then call_fine (λ c. fine_pure (tree.local_declr x (begins.Call p c)))) (init_fine x p)
-      (λ w at us. shrink_then {j = 0} {k = 0} 0 (omega arith) (λ c. (fine_pure (tree.local_declr x (begins.Call p c))).shrinks) us (call_gone w at us))
-      (λ w at us. shrink_then {j = 0} {k = 0} 0 (omega arith) (λ i. (fine_pure (tree.local_declr x (begins.Init p i))).shrinks) us (init_gone w at us)))
+      (λ w at us h. shrink_then {j = 0} {k = 0} 0 (omega arith) (λ c. (fine_pure (tree.local_declr x (begins.Call p c))).shrinks) us (call_gone w at us h))
+      (λ w at us h. shrink_then {j = 0} {k = 0} 0 (omega arith) (λ i. (fine_pure (tree.local_declr x (begins.Init p i))).shrinks) us (init_gone w at us h)))
 
   pub local_declr_fine : Fine 1 (read.local_declr ns n)
   unfolding read.local_declr
@@ -377,14 +386,14 @@ module _ (ns : Names) (n : ℕ) (bodies : Bodies) (deeper : IsFine n bodies) whe
   unfolding read.gives same_mark expect
   gives_gone x p us = (loosen (gives_tail x p)).shrinks us
 
-  equal_name_gone : (star : Bool) (x : Place) (p : Pos) (w : List ℕ) (q : Pos) (us : List Token) → Shrinks 0 us (read.simple_ended ns n bodies (read.assigned ns n star x) (mark m.Equal p ∷ word w q ∷ us))
+  equal_name_gone : (star : Bool) (x : Place) (p : Pos) (w : List ℕ) (q : Pos) (us : List Token) → is_type_name ns w ≡ false → Shrinks 0 us (read.simple_ended ns n bodies (read.assigned ns n star x) (mark m.Equal p ∷ word w q ∷ us))
   unfolding read.simple_ended read.assigned sees same_mark expect
-  equal_name_gone star x p w q us = shrink_then {j = 0} {k = 0} 0 (omega arith) (λ a. (simple_tail a).shrinks) us
-      (shrink_then {j = 0} {k = 0} 0 (omega arith) (λ a. (fine_pure (simply.Assign x p a)).shrinks) us (name_expr ns n w q us))
+  equal_name_gone star x p w q us h = shrink_then {j = 0} {k = 0} 0 (omega arith) (λ a. (simple_tail a).shrinks) us
+      (shrink_then {j = 0} {k = 0} 0 (omega arith) (λ a. (fine_pure (simply.Assign x p a)).shrinks) us (name_expr ns n w q us h))
 
-  gives_name_gone : (x : Place) (p : Pos) (w : List ℕ) (q : Pos) (us : List Token) → Shrinks 0 us (read.gives ns n bodies x (mark m.Equal p ∷ word w q ∷ us))
+  gives_name_gone : (x : Place) (p : Pos) (w : List ℕ) (q : Pos) (us : List Token) → is_type_name ns w ≡ false → Shrinks 0 us (read.gives ns n bodies x (mark m.Equal p ∷ word w q ∷ us))
   unfolding read.gives same_mark expect
-  gives_name_gone x p w q us = shrink_then {j = 0} {k = 0} 0 (omega arith) (λ c. (fine_then (fine_expect m.Semicolon) (λ o. fine_pure (s.Gives x p c))).shrinks) us (call_gone ns n w q us)
+  gives_name_gone x p w q us h = shrink_then {j = 0} {k = 0} 0 (omega arith) (λ c. (fine_then (fine_expect m.Semicolon) (λ o. fine_pure (s.Gives x p c))).shrinks) us (call_gone ns n w q us h)
 
   abbrev BothGone : Bool → Place → List Token → List Token → Type 0
   BothGone star x ts us = Shrinks 0 us (read.gives ns n bodies x ts) × Shrinks 0 us (read.simple_ended ns n bodies (read.assigned ns n star x) ts)
@@ -394,9 +403,18 @@ module _ (ns : Names) (n : ℕ) (bodies : Bodies) (deeper : IsFine n bodies) whe
   comes_near star x (Mark m.Equal) p r s = inr (gives_gone x p r, equal_gone star x p r)
   comes_near star x w p r s = inl refl
 
+  type_comes : (p : Pos) (w : List ℕ) (q : Pos) (us : List Token) → is_type_name ns w ≡ true → call_comes (mark m.Equal p ∷ word w q ∷ us) ≡ false
+  unfolding sees same_mark
+  type_comes p w q us h = type_call ns n w q us h
+
+  comes_word : (star : Bool) (x : Place) (p : Pos) (w : List ℕ) (q : Pos) (r s : List Token) (y : Bool) → is_type_name ns w ≡ y
+      → (call_comes (mark m.Equal p ∷ word w q ∷ r) ≡ call_comes (mark m.Equal p ∷ word w q ∷ s)) ⊎ BothGone star x (mark m.Equal p ∷ word w q ∷ r) r
+  comes_word star x p w q r s true h = inl (type_comes p w q r h ∙ sym (type_comes p w q s h))
+  comes_word star x p w q r s false h = inr (gives_name_gone x p w q r h, equal_name_gone star x p w q r h)
+
   comes_name : (star : Bool) (x : Place) (p : Pos) (w : Word) (q : Pos) (r s : List Token) → let t : Token = record { word = w; pos = q } in (call_comes (mark m.Equal p ∷ t ∷ r) ≡ call_comes (mark m.Equal p ∷ t ∷ s)) ⊎ BothGone star x (mark m.Equal p ∷ t ∷ r) r
   unfolding sees same_mark read.sees_call name_at
-  comes_name star x p (Name w) q r s = inr (gives_name_gone x p w q r, equal_name_gone star x p w q r)
+  comes_name star x p (Name w) q r s = comes_word star x p w q r s (is_type_name ns w) refl
   comes_name star x p (Number v u l d) q r s = inl refl
   comes_name star x p (Key j) q r s = inl refl
   comes_name star x p (Mark j) q r s = inl refl
@@ -417,8 +435,8 @@ module _ (ns : Names) (n : ℕ) (bodies : Bodies) (deeper : IsFine n bodies) whe
   pub placed_fine : Fine 1 (read.placed ns n bodies)
   unfolding read.placed read.call_stmt
   placed_fine = call_or_fine ns n (read.call_stmt ns n bodies) (λ ts. (read.place ns n >>= read.assigned_stmt ns n bodies (begins_with_star ts)) ts) call_stmt_fine placed_other
-      (λ w at us. shrink_then {j = 0} {k = 0} 0 (omega arith) (λ c. (fine_then (fine_expect m.Semicolon) (λ p. fine_pure (s.Call c))).shrinks) us (call_gone ns n w at us))
-      (λ w at us. shrink_then {j = 0} {k = 0} 0 (omega arith) (λ x. (assigned_stmt_fine false x).shrinks) us (name_place ns n w at us))
+      (λ w at us h. shrink_then {j = 0} {k = 0} 0 (omega arith) (λ c. (fine_then (fine_expect m.Semicolon) (λ p. fine_pure (s.Call c))).shrinks) us (call_gone ns n w at us h))
+      (λ w at us h. shrink_then {j = 0} {k = 0} 0 (omega arith) (λ x. (assigned_stmt_fine false x).shrinks) us (name_place ns n w at us h))
 
   pub if_with_fine : (p : Pos) (c : Expr) (a : Stmt) → Fine 0 (read.if_with ns n bodies p c a)
   if_with_fine p c a = fine_if begins_with_else else_ahead (fine_then fine_takes (λ q. fine_then deeper.stmt (λ b. fine_pure (s.IfElse p c a b)))) (fine_pure (s.If p c a))

@@ -22,7 +22,7 @@ use Rattle.sa_syntax.specs.Reading.{Parser, Read, Got, Stuck, Deep, sees, after,
 use Rattle.sa_syntax.specs.ReadExpr.{is_some, inside}
 use Rattle.sa_syntax.specs.ReadStmt as read
 use Rattle.sa_syntax.specs.ReadStmt.{takes, within, list}
-use Rattle.sa_syntax.proofs.DeepLemmas.{Shrinks, Local, Fine, Ahead, loosen, loosen_read, shrink_then, shrink_cond, turn, local_cond, same_first, any_name_gone, fine_then, fine_first, fine_next, fine_pure, fine_refuse, fine_ahead, fine_if, fine_after, fine_takes, fine_any_name, fine_expect, fine_opens_then, fine_list, list_front, fine_mark_or, fine_within, fine_look, sees_ahead, name_ahead, key_ahead}
+use Rattle.sa_syntax.proofs.DeepLemmas.{Shrinks, Local, Fine, Ahead, loosen, loosen_read, shrink_then, shrink_cond, turn, local_cond, same_first, any_name_gone, as_short, fine_then, fine_first, fine_next, fine_pure, fine_refuse, fine_ahead, fine_if, fine_after, fine_takes, fine_any_name, fine_expect, fine_opens_then, fine_list, list_front, fine_mark_or, fine_within, fine_look, sees_ahead, name_ahead, key_ahead}
 use Rattle.sa_syntax.proofs.DeepExpr as expr_fine
 use Rattle.sa_syntax.proofs.DeepExpr.{inside_fine, place_ahead}
 use Rattle.sa_syntax.proofs.DeepStmt as fine
@@ -32,11 +32,11 @@ use Rattle.sa_syntax.proofs.UnitComplete.{source-complete}
 -- ---- where no statement may be open
 no_stmt_shrinks : (ns : Names) (ts : List Token) → Shrinks 1 ts (read.no_stmt ns ts)
 unfolding read.begins_stmt key_at mark_at name_at
-no_stmt_shrinks ns [] = Shrinks.stuck
-no_stmt_shrinks ns (t ∷ ts) = shrink_cond (read.begins_stmt ns (t ∷ ts)) (Shrinks.deep [] refl) Shrinks.stuck
+no_stmt_shrinks ns [] = Shrinks.stuck [] refl
+no_stmt_shrinks ns (t ∷ ts) = shrink_cond (read.begins_stmt ns (t ∷ ts)) (Shrinks.deep [] refl) (Shrinks.stuck [] refl)
 
 pub no_stmt_fine : (ns : Names) → Fine 1 (read.no_stmt ns)
-no_stmt_fine ns = record { shrinks = no_stmt_shrinks ns; local = λ b t r s. local_cond (read.begins_stmt ns (b ++ t ∷ r)) (read.begins_stmt ns (b ++ t ∷ s)) (same_first (read.begins_stmt ns) (fine.begins_ahead ns) b t r s) (Local.deep b) Local.stuck }
+no_stmt_fine ns = record { shrinks = no_stmt_shrinks ns; local = λ b t r s. local_cond (read.begins_stmt ns (b ++ t ∷ r)) (read.begins_stmt ns (b ++ t ∷ s)) (same_first (read.begins_stmt ns) (fine.begins_ahead ns) b t r s) (Local.deep b) (Local.stuck b) }
 
 pub bodies_fine : (ns : Names) (n : ℕ) → IsFine n (read.bodies ns n)
 unfolding read.bodies
@@ -117,9 +117,9 @@ module _ (ns : Names) (n : ℕ) where
   unfolding read.function
   function_fine t = fine_first fine_any_name (function_tail t)
 
-  function_gone : (t : Specifiers) (c : Token) (us : List Token) → Shrinks 0 us (read.function ns n t (c ∷ us))
+  function_gone : (t : Specifiers) (w : List ℕ) (p : Pos) (us : List Token) → Shrinks 0 us (read.function ns n t (word w p ∷ us))
   unfolding read.function
-  function_gone t c us = shrink_then {j = 0} {k = 0} 0 (omega arith) (λ x vs. loosen_read ((function_tail t x).shrinks vs)) us (any_name_gone c us)
+  function_gone t w p us = shrink_then {j = 0} {k = 0} 0 (omega arith) (λ x vs. loosen_read ((function_tail t x).shrinks vs)) us (any_name_gone w p us)
 
   -- ---- items
   pub typedef_fine : Fine 1 (read.typedef ns n)
@@ -133,7 +133,7 @@ module _ (ns : Names) (n : ℕ) where
   global_gone : (t : Specifiers) (w : List ℕ) (p : Pos) (us : List Token) → Shrinks 0 us (read.global ns n t (word w p ∷ us))
   unfolding read.global
   global_gone t w p us = shrink_then {j = 0} {k = 0} 0 (omega arith) (λ ds. (fine_pure (top.Global t ds)).shrinks) us
-      (list_front m.Semicolon (read.init_declr ns n) (fine.init_declr_fine ns n) (word w p ∷ us) us (fine.init_declr_gone ns n (word w p) us))
+      (list_front m.Semicolon (read.init_declr ns n) (fine.init_declr_fine ns n) (word w p ∷ us) us (fine.init_declr_gone ns n w p us))
 
   function_far : (c d f : Token) (r s : List Token) → read.sees_function (c ∷ d ∷ f ∷ r) ≡ read.sees_function (c ∷ d ∷ f ∷ s)
   unfolding read.sees_function name_at sees
@@ -146,7 +146,7 @@ module _ (ns : Names) (n : ℕ) where
   function_near : (t : Specifiers) (w : Word) (p : Pos) (r s : List Token) → let c : Token = record { word = w; pos = p } in (read.sees_function (c ∷ r) ≡ read.sees_function (c ∷ s))
       ⊎ (Shrinks 0 r (read.function ns n t (c ∷ r)) × Shrinks 0 r (read.global ns n t (c ∷ r)))
   unfolding read.sees_function name_at
-  function_near t (Name w) p r s = inr (function_gone t (word w p) r, global_gone t w p r)
+  function_near t (Name w) p r s = inr (function_gone t w p r, global_gone t w p r)
   function_near t (Number v u l d) p r s = inl refl
   function_near t (Key j) p r s = inl refl
   function_near t (Mark j) p r s = inl refl
@@ -174,24 +174,24 @@ module _ (ns : Names) (n : ℕ) where
 -- ---- sources
 shrink_items : (n left : ℕ) (ns : Names) (found : List Item) (ts : List Token) → Shrinks 0 ts (read.items_from n left ns found ts)
 unfolding read.items_from
-shrink_items n zero ns found ts = Shrinks.stuck
+shrink_items n zero ns found ts = Shrinks.stuck [] refl
 shrink_items n (suc left) ns found [] = Shrinks.got [] refl (omega arith)
 shrink_items n (suc left) ns found (t ∷ ts) = shrink_then {j = 1} {k = 0} 0 (omega arith) (λ x us. shrink_items n left (read.names_after ns x) (found ++ x ∷ []) us) (t ∷ ts) ((an_item_fine ns n).shrinks (t ∷ ts))
 
-local_items : (n left more : ℕ) (ns : Names) (found : List Item) (b : List Token) (t : Token) (r s : List Token) → length (b ++ t ∷ s) < more
+local_items : (n left more : ℕ) (ns : Names) (found : List Item) (b : List Token) (t : Token) (r s : List Token) → length (b ++ t ∷ r) < left → length (b ++ t ∷ s) < more
     → Local t r s (read.items_from n left ns found (b ++ t ∷ r)) (read.items_from n more ns found (b ++ t ∷ s))
 unfolding read.items_from
-local_items n zero more ns found b t r s h = Local.stuck
-local_items n (suc left) zero ns found b t r s h = absurd (omega arith)
-local_items n (suc left) (suc more) ns found [] t r s h =
-    turn _ _ 1 (λ x c g. local_items n left more (read.names_after ns x) (found ++ x ∷ []) c t r s (omega (arith, g, h))) (λ x us. shrink_items n left (read.names_after ns x) (found ++ x ∷ []) us)
+local_items n zero more ns found b t r s i h = absurd (omega arith)
+local_items n (suc left) zero ns found b t r s i h = absurd (omega arith)
+local_items n (suc left) (suc more) ns found [] t r s i h =
+    turn _ _ 1 (λ x c g. let l = as_short c [] t r s 1 0 (omega (arith, g)) in local_items n left more (read.names_after ns x) (found ++ x ∷ []) c t r s (omega (arith, l, i)) (omega (arith, g, h))) (λ x us. shrink_items n left (read.names_after ns x) (found ++ x ∷ []) us)
     ((an_item_fine ns n).local [] t r s) ((an_item_fine ns n).shrinks (t ∷ s))
-local_items n (suc left) (suc more) ns found (d ∷ b) t r s h =
-    turn _ _ 1 (λ x c g. local_items n left more (read.names_after ns x) (found ++ x ∷ []) c t r s (omega (arith, g, h))) (λ x us. shrink_items n left (read.names_after ns x) (found ++ x ∷ []) us)
+local_items n (suc left) (suc more) ns found (d ∷ b) t r s i h =
+    turn _ _ 1 (λ x c g. let l = as_short c (d ∷ b) t r s 1 0 (omega (arith, g)) in local_items n left more (read.names_after ns x) (found ++ x ∷ []) c t r s (omega (arith, l, i)) (omega (arith, g, h))) (λ x us. shrink_items n left (read.names_after ns x) (found ++ x ∷ []) us)
     ((an_item_fine ns n).local (d ∷ b) t r s) ((an_item_fine ns n).shrinks (d ∷ b ++ t ∷ s))
 
 pub items_fine : (n : ℕ) → Fine 0 (λ ts. read.items_from n (turns ts) [] [] ts)
-items_fine n = record { shrinks = λ ts. shrink_items n (turns ts) [] [] ts; local = λ b t r s. local_items n (turns (b ++ t ∷ r)) (turns (b ++ t ∷ s)) [] [] b t r s (omega arith) }
+items_fine n = record { shrinks = λ ts. shrink_items n (turns ts) [] [] ts; local = λ b t r s. local_items n (turns (b ++ t ∷ r)) (turns (b ++ t ∷ s)) [] [] b t r s (omega arith) (omega arith) }
 
 pub source_fine : (n : ℕ) → Fine 0 (read.source n)
 unfolding read.source
@@ -203,7 +203,8 @@ no_tree _ _ (Local.got b) e f = cc
 no_tree _ _ (Local.deep b) e f = cc
 no_tree {t = t} {r = r} _ _ (Local.gone h) e f = cc
 no_tree {t = t} {r = r} (Deep us) _ (Local.gone_deep h) e f = let g : us ≡ t ∷ r = cc in let l : length us ≡ length (t ∷ r) = ap length g in absurd (omega (arith, h, l))
-no_tree _ _ Local.stuck e f = cc
+no_tree _ _ (Local.stuck b) e f = cc
+no_tree _ _ (Local.gone_stuck h) e f = cc
 
 -- the tokens up to the one that is too deep begin no text in which no more is open
 pub none_within : (n : ℕ) (before : List Token) (t : Token) (behind tail : List Token) (u : Source) → read.source n (before ++ t ∷ behind) ≡ Deep (t ∷ behind) → Tree n ((before ++ t ∷ []) ++ tail) u → ⊥

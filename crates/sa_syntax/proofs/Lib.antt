@@ -25,4 +25,9 @@ pub mod ClosingExpr
 pub mod ClosingStmt
 pub mod ClosingBodies
 pub mod ClosingUnit
+pub mod EndsLemmas
+pub mod EndsExpr
+pub mod EndsStmt
+pub mod EndsBodies
+pub mod EndsUnit
 pub mod Samples

@@ -429,7 +429,7 @@ module _ (ns : Names) (n : ℕ) where
   bare_at ts _ vs _ t x Qualifiers.no_qualifier j h = base_struct ts vs t x j h
   bare_at _ us vs _ t x (Qualifiers.qualifier e more) j h = cc
 
-  bare_struct : (ts us : List Token) (t : Specifiers) (x : Struct) → Specifiers' ns n ts t us → read.struct_of t ≡ Some x → Struct' ns n ts x us
+  pub bare_struct : (ts us : List Token) (t : Specifiers) (x : Struct) → Specifiers' ns n ts t us → read.struct_of t ≡ Some x → Struct' ns n ts x us
   unfolding read.struct_of
   bare_struct ts us _ x (Specifiers'.specifiers {us = ms} {qs = qs} {b = t} i j) h =
       let e = out-roll-Specifiers (record { pos = tree.pos_of ts; qualifiers = qs; base = t }) in

@@ -2,10 +2,14 @@
 -- What the refusals of the reader say.
 use Rattle.std.specs.Prelude.{ℕ, ◌≡◌, List, ◌∷◌}
 use Rattle.sa_tokens.specs.declared.token.Token.{Token}
-use Rattle.sa_syntax.specs.Reading.{Deep}
+use Rattle.sa_syntax.specs.Reading.{Stuck, Deep}
 use Rattle.sa_syntax.specs.ReadStmt.{source}
-use Rattle.sa_syntax.specs.Refusals.{GoesTooDeep}
+use Rattle.sa_syntax.specs.Refusals.{GoesTooDeep, FailsAt}
 
 -- What is refused for depth is too deep at the token that is told.
 abbrev pub TellsDepth : Type 0
 TellsDepth = (n : ℕ) (ts us : List Token) → source n ts ≡ Deep us → (d : GoesTooDeep n ts) × (us ≡ d.token ∷ d.after)
+
+-- What is refused otherwise is refused at the first token with which no text begins, or at the end of a text that isn't finished.
+abbrev pub TellsPlace : Type 0
+TellsPlace = (n : ℕ) (ts us : List Token) → source n ts ≡ Stuck us → FailsAt ts us

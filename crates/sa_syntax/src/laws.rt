@@ -2,7 +2,7 @@
 
 ghost use Rattle.sa_syntax.specs.SoundLaws.{MoreRoomReadsTheSame, MoreRoomReadsTheSameSource, ReadingsAreExpressions, ReadingsAreSources};
 ghost use Rattle.sa_syntax.specs.ExprLaws.{ReadsExpressions, ReadsPlaces, ReadsTypes, ReadsDeclrs};
-ghost use Rattle.sa_syntax.specs.RefusalLaws.{TellsDepth};
+ghost use Rattle.sa_syntax.specs.RefusalLaws.{TellsDepth, TellsPlace};
 ghost use Rattle.sa_syntax.specs.StmtLaws.{ReadsStatements, ReadsSources, HasOneTree};
 
 /// What is read as an expression is one by the grammar.
@@ -63,4 +63,9 @@ pub fn has_one_tree()
 /// A source that is refused for depth is too deep at the token that is told.
 pub fn tells_depth()
     ensures { TellsDepth }
+{}
+
+/// A source that is refused otherwise is refused at the first token with which no text begins, or at its end.
+pub fn tells_place()
+    ensures { TellsPlace }
 {}

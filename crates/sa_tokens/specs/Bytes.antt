@@ -41,17 +41,24 @@ begins_return (b ∷ s) = b == 13 && not (begins feed s)
 abbrev pub after_gaps : List ℕ → List ℕ
 after_gaps s = drop (prefix_len is_gap s) s
 
+-- what may stand between a backslash and the end of its line: compilers skip a NUL byte there as they do blanks
+abbrev pub is_skipped : ℕ → Bool
+is_skipped b = is_gap b || b == 0
+
+abbrev pub after_skipped : List ℕ → List ℕ
+after_skipped s = drop (prefix_len is_skipped s) s
+
 -- a backslash, or its trigraph (ISO C 5.2.1.1), and what follows it passes the test
 abbrev pub begins_backslash : (List ℕ → Bool) → List ℕ → Bool
 begins_backslash test s = (begins (92 ∷ []) s && test (drop 1 s)) || (begins (codes "??/") s && test (drop 3 s))
 
 abbrev pub ends_line : List ℕ → Bool
-ends_line s = begins_end (after_gaps s)
+ends_line s = begins_end (after_skipped s)
 
 abbrev pub may_end_line : List ℕ → Bool
-may_end_line s = begins feed (after_gaps s) || begins (13 ∷ []) (after_gaps s)
+may_end_line s = begins feed (after_skipped s) || begins (13 ∷ []) (after_skipped s)
 
--- a splice (ISO C 5.1.1.2, phase 2): it joins two lines. Compilers allow blanks before the line's end
+-- a splice (ISO C 5.1.1.2, phase 2): it joins two lines. Compilers allow blanks and NUL bytes before the line's end
 abbrev pub begins_splice : List ℕ → Bool
 begins_splice s = begins_backslash ends_line s
 

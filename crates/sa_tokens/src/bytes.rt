@@ -2,7 +2,7 @@
 
 ghost use Rattle.std.specs.Prelude.{◌≡◌, ◌≤◌, length};
 ghost use Rattle.std.specs.List.{prefix_len};
-ghost use Rattle.sa_tokens.specs.Bytes.{feed, is_digit, is_word_byte, is_gap, begins, begins_end, is_blank, begins_return, after_gaps, begins_splice, ends_line, may_end_line};
+ghost use Rattle.sa_tokens.specs.Bytes.{feed, is_digit, is_word_byte, is_gap, is_skipped, begins, begins_end, is_blank, begins_return, after_gaps, after_skipped, begins_splice, ends_line, may_end_line};
 
 pub fn is_digit(b: u8) -> bool
     ensures { result ≡ is_digit b }
@@ -63,20 +63,40 @@ pub fn after_gaps(text: &[u8]) -> &[u8]
     &text[gaps_len(text)..]
 }
 
+/// What may stand between a backslash and the end of its line: a blank, or a NUL byte, which compilers skip there.
+fn is_skipped(b: u8) -> bool
+    ensures { result ≡ is_skipped b }
+{
+    is_gap(b) || b == 0
+}
+
+fn skipped_len(text: &[u8]) -> usize
+    ensures value { result ≡ prefix_len is_skipped text.now }
+    ensures within { result ≤ length text.now }
+{
+    text.iter().take_while(|b| is_skipped(**b)).count()
+}
+
+fn after_skipped(text: &[u8]) -> &[u8]
+    ensures { result.now ≡ after_skipped text.now }
+{
+    &text[skipped_len(text)..]
+}
+
 fn ends_line(text: &[u8]) -> bool
     ensures { result ≡ ends_line text.now }
 {
-    matches!(after_gaps(text), [b'\n', ..] | [b'\r', b'\n', ..])
+    matches!(after_skipped(text), [b'\n', ..] | [b'\r', b'\n', ..])
 }
 
-/// Whether a line ends after some blanks, or a carriage return stands there.
+/// Whether a line ends after some blanks and NUL bytes, or a carriage return stands there.
 pub fn may_end_line(text: &[u8]) -> bool
     ensures { result ≡ may_end_line text.now }
 {
-    matches!(after_gaps(text), [b'\n' | b'\r', ..])
+    matches!(after_skipped(text), [b'\n' | b'\r', ..])
 }
 
-/// Whether the text begins with a backslash or its trigraph, blanks and the end of a line, so that it joins two lines.
+/// Whether the text begins with a backslash or its trigraph, blanks or NUL bytes, and the end of a line, so that it joins two lines.
 pub fn begins_splice(text: &[u8]) -> bool
     ensures { result ≡ begins_splice text.now }
 {

@@ -49,6 +49,14 @@ fn where_a_source_is_refused(rt: HostRuntime) -> Result<(), Fail> {
         ("x = \"", TokenFault::BadByte(at(1, 5))),
         ("\u{e9}", TokenFault::BadByte(at(1, 1))),
         ("\0", TokenFault::BadByte(at(1, 1))),
+        ("// reset \\\0\nx = 0;", TokenFault::BadByte(at(1, 10))),
+        ("x??/\0 \0\r\ny", TokenFault::BadByte(at(1, 2))),
+        (
+            "/* *\\\0\n/ x = 1 / 0; /* */",
+            TokenFault::OpenComment(at(1, 1)),
+        ),
+        ("#1 \\\0\n", TokenFault::Directive(at(1, 1))),
+        ("#\0001", TokenFault::Directive(at(1, 1))),
     ];
     for (source, fault) in cases {
         match read(alloc, source.as_bytes()) {
@@ -76,6 +84,8 @@ fn how_many_tokens_a_source_has(rt: HostRuntime) -> Result<(), Fail> {
         ("a+++b---c", 7),
         ("x??/ y", 5),
         ("/* **/;/**/", 1),
+        ("/* \0 \\\0\n */ ;", 1),
+        ("// a \\ \0 b\n;", 1),
         ("a//b\n/c", 3),
     ];
     for (source, count) in cases {

@@ -1,5 +1,5 @@
 -- A source has one answer.
-use Rattle.std.proofs.Common.{◌≡◌, ℕ, ◌<◌, length, List, [], ◌∷◌, append_assoc, refl, ap, sym, subst, ◌∙◌, arith, inl, inr, ◌⊎◌, ⊎_elim}
+use Rattle.std.proofs.Common.{◌≡◌, ℕ, ◌<◌, length, List, [], ◌∷◌, ◌++◌, append_assoc, refl, ap, sym, subst, ◌∙◌, arith, inl, inr, ◌⊎◌, ⊎_elim}
 use Rattle.sa_base.specs.declared.pos.Pos.{Pos}
 use Rattle.sa_base.specs.declared.status.Status.{Status}
 use Rattle.sa_base.specs.declared.status.Status.TheVariants as s
@@ -13,19 +13,69 @@ use Rattle.sa_tokens.specs.declared.fault.TokenFault.TheVariants.{BadByte, BadNu
 use Rattle.sa_tokens.specs.Lexed.{IsLexed, IsRefused, HasTooMany, end_pos}
 use Rattle.sa_tokens.proofs.ReadingLemmas.{each_has_one_answer}
 use Rattle.sa_syntax.specs.declared.unit.Unit.{Unit as Source}
-use Rattle.sa_syntax.specs.Refusals.{IsSource, most_open}
+use Rattle.sa_syntax.specs.Statements.{Tree}
+use Rattle.sa_syntax.specs.Refusals.{IsSource, HasNoTree, Begins, BeginsNone, IsRefused, FailsAt, place_at, most_open}
 use Rattle.sa_syntax.proofs.UnitComplete.{one-tree}
 use Rattle.sa_parser.specs.declared.fault.ParseFault.TheVariants.{Syntax, TooDeep}
 use Rattle.sa_parser.specs.Faults.{IsFault}
 use Rattle.sa_base.specs.declared.refusal.Refusal.{Refusal}
 use Rattle.sa_typed.specs.declared.program.Program.{Program}
 use Rattle.sa_top.specs.Accepted.{Reading, Unbuilt, Refused, TooLarge, Built, reading_of, IsRead, IsAccepted, OneReading}
-use Rattle.sa_top.specs.Answer.{HasNoTokens, bad_byte, bad_number, open_comment, directive, too_many, IsUnparsed, no_tree, too_deep, IsWithin, SourceAnswer, too_long, unlexed, unparsed, unbuilt, refused, too_large, report, report_status, report_of, OneAnswer}
+use Rattle.sa_top.specs.Answer.{HasNoTokens, bad_byte, bad_number, open_comment, directive, too_many, IsUnparsed, no_tree, too_deep, IsWithin, SourceAnswer, too_long, unlexed, unparsed, unbuilt, refused, too_large, report, report_status, report_of, IsErrorOrDeep, error_first, deep_first, OneAnswer}
 use Rattle.sa_top.specs.Report.{refused_text, limit_text}
 
 -- ---- what a fault of the parser excludes
+append_none : (xs : List Token) → xs ++ [] ≡ xs
+append_none [] = refl
+append_none (x ∷ xs) = ap (λ z. x ∷ z) (append_none xs)
+
+no-tree : (ts rest : List Token) → FailsAt ts rest → HasNoTree ts
+no-tree ts [] f n u k = f.refused n u (subst (λ z. Tree n z u) (f.is ∙ append_none f.before) k)
+no-tree ts (t ∷ rest) f n u k = f.refused n rest u (subst (λ z. Tree n z u) (f.is ∙ sym (append_assoc f.before (t ∷ []) rest)) k)
+
 syntax-no_source : (ts : List Token) (end p : Pos) (u : Source) → IsFault ts end (Syntax p) → IsSource ts u → ⊥
-syntax-no_source ts end p u h k = h.0 most_open u k
+syntax-no_source ts end p u h k = no-tree ts h.rest h.fails most_open u k
+
+-- ---- two places at which the same tokens are refused are one
+-- the token that is refused begins no longer front that begins a text
+longer : (b : List Token) (t : Token) (us d vs : List Token) → Begins (b ++ t ∷ d) → BeginsNone (b ++ t ∷ []) → ⊥
+longer b t us d vs g none =
+    let same : ((b ++ t ∷ d) ++ g.1) ≡ (b ++ t ∷ []) ++ (d ++ g.1) = append_assoc b (t ∷ d) (g.1) ∙ sym (append_assoc b (t ∷ []) (d ++ g.1)) in
+    none (g.0) (d ++ g.1) (g.2) (subst (λ z. Tree (g.0) z (g.2)) same (g.3))
+
+-- of two fronts of one text one is the other and more
+data Fronts (b c us vs : List Token) : Type 0 where
+  alike : us ≡ vs → Fronts b c us vs
+  first_more : (t : Token) (d : List Token) → b ≡ c ++ t ∷ d → vs ≡ t ∷ (d ++ us) → Fronts b c us vs
+  second_more : (t : Token) (d : List Token) → c ≡ b ++ t ∷ d → us ≡ t ∷ (d ++ vs) → Fronts b c us vs
+
+next_fronts : (x : Token) (b c us vs : List Token) → Fronts b c us vs → Fronts (x ∷ b) (x ∷ c) us vs
+next_fronts x b c us vs (Fronts.alike e) = Fronts.alike e
+next_fronts x b c us vs (Fronts.first_more t d e f) = Fronts.first_more t d (ap (λ z. x ∷ z) e) f
+next_fronts x b c us vs (Fronts.second_more t d e f) = Fronts.second_more t d (ap (λ z. x ∷ z) e) f
+
+fronts : (b c us vs : List Token) → b ++ us ≡ c ++ vs → Fronts b c us vs
+fronts [] [] us vs e = Fronts.alike e
+fronts [] (t ∷ c) us vs e = Fronts.second_more t c refl e
+fronts (t ∷ b) [] us vs e = Fronts.first_more t b refl (sym e)
+fronts (x ∷ b) (y ∷ c) us vs e =
+    let same : x ≡ y = cc in
+    let rest : b ++ us ≡ c ++ vs = cc in
+    subst (λ z. Fronts (x ∷ b) (z ∷ c) us vs) same (next_fronts x b c us vs (fronts b c us vs rest))
+
+refused-longer : (b : List Token) (t : Token) (d us rest : List Token) → rest ≡ t ∷ (d ++ us) → Begins (b ++ t ∷ d) → IsRefused b rest → ⊥
+refused-longer b t d us [] e g h = cc
+refused-longer b t d us (x ∷ rest) e g h = let same : x ≡ t = cc in longer b t us d rest g (subst (λ z. BeginsNone (b ++ z ∷ [])) same h)
+
+place-same : (ts us vs : List Token) (f : FailsAt ts us) (g : FailsAt ts vs) → Fronts f.before g.before us vs → us ≡ vs
+place-same ts us vs f g (Fronts.alike e) = e
+place-same ts us vs f g (Fronts.first_more t d e h) = absurd (refused-longer g.before t d us vs h (subst Begins e f.begins) g.refused)
+place-same ts us vs f g (Fronts.second_more t d e h) = absurd (refused-longer f.before t d vs us h (subst Begins e g.begins) f.refused)
+
+error-same : (ts : List Token) (end p q : Pos) → IsFault ts end (Syntax p) → IsFault ts end (Syntax q) → p ≡ q
+error-same ts end p q h k =
+    let e = place-same ts h.rest k.rest h.fails k.fails (fronts h.fails.before k.fails.before h.rest k.rest (sym h.fails.is ∙ k.fails.is)) in
+    h.place ∙ ap (place_at end) e ∙ sym k.place
 
 deep-no_source : (ts : List Token) (end p : Pos) (u : Source) → IsFault ts end (TooDeep p) → IsSource ts u → ⊥
 deep-no_source ts end p u h k =
@@ -143,7 +193,20 @@ way source _ _ (report p w a) = by_reading w (record { reading = Built p; read =
 
 -- ---- one answer
 One : List ℕ → (status other : Status) (text otherwise : List ℕ) → Type 0
-One source status other text otherwise = ((status ≡ other) × (text ≡ otherwise)) ⊎ (IsUnparsed source status text × IsUnparsed source other otherwise)
+One source status other text otherwise = ((status ≡ other) × (text ≡ otherwise)) ⊎ IsErrorOrDeep source status other text otherwise
+
+unparsed-meet : (source : List ℕ) (status other : Status) (text otherwise : List ℕ) → IsUnparsed source status text → IsUnparsed source other otherwise → One source status other text otherwise
+unfolding One
+unparsed-meet source _ _ _ _ (no_tree ts p l h) (no_tree us q o k) =
+    let same : ts ≡ us = (each_has_one_answer source).same_tokens ts us l o in
+    inl (refl, ap (refused_text code.Syntax) (error-same us (end_pos source) p q (subst (λ z. IsFault z (end_pos source) (Syntax p)) same h) k))
+unparsed-meet source _ _ _ _ (no_tree ts p l h) (too_deep us q o k) = inr (error_first p (no_tree ts p l h) (too_deep us q o k))
+unparsed-meet source _ _ _ _ (too_deep ts p l h) (no_tree us q o k) = inr (deep_first q (too_deep ts p l h) (no_tree us q o k))
+unparsed-meet source _ _ _ _ (too_deep ts p l h) (too_deep us q o k) = inl (refl, refl)
+
+unparsed-first : (source : List ℕ) (status other : Status) (text otherwise : List ℕ) → IsErrorOrDeep source status other text otherwise → IsUnparsed source status text
+unparsed-first source _ _ _ _ (error_first p h k) = h
+unparsed-first source _ _ _ _ (deep_first p h k) = h
 
 ways_meet : (source : List ℕ) (status other : Status) (text otherwise : List ℕ) → Way source status text → Way source other otherwise → One source status other text otherwise
 unfolding One
@@ -157,7 +220,7 @@ ways_meet source status other text otherwise (by_tokens w a) (by_tree v b) = abs
 ways_meet source status other text otherwise (by_tokens w a) (by_reading v b) = absurd (unlexed-lexed source status text b.read.tokens a b.read.lexed)
 ways_meet source status other text otherwise (by_tree w a) (by_length h) = let l = h.long in absurd (omega (arith, l, w))
 ways_meet source status other text otherwise (by_tree w a) (by_tokens v b) = absurd (unlexed-unparsed source other status otherwise text b a)
-ways_meet source status other text otherwise (by_tree w a) (by_tree v b) = inr (a, b)
+ways_meet source status other text otherwise (by_tree w a) (by_tree v b) = unparsed-meet source status other text otherwise a b
 ways_meet source status other text otherwise (by_tree w a) (by_reading v b) = absurd (unparsed-read source status text b.reading a b.read)
 ways_meet source status other text otherwise (by_reading w a) (by_length h) = let l = h.long in absurd (omega (arith, l, w))
 ways_meet source status other text otherwise (by_reading w a) (by_tokens v b) = absurd (unlexed-lexed source other otherwise a.read.tokens b a.read.lexed)
@@ -175,5 +238,5 @@ pub accepted-answer : (source : List ℕ) (p : Program) (status : Status) (text 
 accepted-answer source p status text w i h =
     ⊎_elim
     (λ e. e)
-    (λ u. absurd (unparsed-read source status text (Built p) u.0 i))
+    (λ u. absurd (unparsed-read source status text (Built p) (unparsed-first source status (report_status p) text (report_of p) u) i))
     (one_answer source status (report_status p) text (report_of p) h (report p w i))

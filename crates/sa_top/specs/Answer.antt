@@ -61,10 +61,15 @@ pub data SourceAnswer (source : List ℕ) : Status → List ℕ → Type 0 where
   too_large : IsWithin source → IsRead source TooLarge → SourceAnswer source s.Limit (limit_text Cells)
   report : (p : Program) → IsWithin source → IsAccepted source p → SourceAnswer source (report_status p) (report_of p)
 
--- Two answers to one source are the same, unless it is unparsed.
+-- one is a syntax error, and the other the limit of nesting
+pub data IsErrorOrDeep (source : List ℕ) : (status other : Status) (text otherwise : List ℕ) → Type 0 where
+  error_first : (p : Pos) → IsUnparsed source s.SourceRefused (refused_text code.Syntax p) → IsUnparsed source s.Limit (limit_text Nesting) → IsErrorOrDeep source s.SourceRefused s.Limit (refused_text code.Syntax p) (limit_text Nesting)
+  deep_first : (p : Pos) → IsUnparsed source s.Limit (limit_text Nesting) → IsUnparsed source s.SourceRefused (refused_text code.Syntax p) → IsErrorOrDeep source s.Limit s.SourceRefused (limit_text Nesting) (refused_text code.Syntax p)
+
+-- Two answers to one source are the same, unless one is a syntax error and the other the limit of nesting.
 abbrev pub OneAnswer : Type 0
 OneAnswer = (source : List ℕ) (status other : Status) (text otherwise : List ℕ) → SourceAnswer source status text → SourceAnswer source other otherwise →
-    ((status ≡ other) × (text ≡ otherwise)) ⊎ (IsUnparsed source status text × IsUnparsed source other otherwise)
+    ((status ≡ other) × (text ≡ otherwise)) ⊎ IsErrorOrDeep source status other text otherwise
 
 -- ---- the answer to words
 -- a status with its text, or one of those that answer a source, or a file that is missing

@@ -1,0 +1,5 @@
+use Rattle.sa_syntax.proofs.EndsUnit.{told_place}
+use Rattle.sa_syntax.proofs.laws.tells_place.Goals as goal
+
+pub returns : goal.returns
+returns c = told_place
