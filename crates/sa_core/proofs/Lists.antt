@@ -59,7 +59,7 @@ module _ {P : Type 0} {m : Parts P} where
       ]
 
   -- a branch that isn't free stands as before the claim
-  stands : (w k : ℕ) (s : State P) → branch_at s.branches k ≢ Free → IsCoreOf m s → branch_at (claimed w s).branches k ≡ branch_at s.branches k
+  pub stands : (w k : ℕ) (s : State P) → branch_at s.branches k ≢ Free → IsCoreOf m s → branch_at (claimed w s).branches k ≡ branch_at s.branches k
   stands w k s taken core =
       let apart : k ≢ s.next = λ e. taken (subst (λ (i : ℕ). branch_at s.branches i ≡ Free) (sym e) (core.free_from_next s.next (omega arith))) in
       elim (cases_Bool (ltb s.next (length s.branches))) [
