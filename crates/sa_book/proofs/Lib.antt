@@ -1,2 +1,4 @@
 pub mod Counting
 pub mod Claiming
+pub mod Alone
+pub mod Splitting

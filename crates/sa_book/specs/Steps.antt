@@ -79,6 +79,7 @@ module _ {W P : Type 0} where
     pub of_board : me.0.terms ≡ Some terms
     pub number_is : me.0.seat ≡ number
     pub spares_are : me.0.spares ≡ spares
+    pub spares_fit : spares ≤ terms.seats
     pub ticket : me.0.ticket ≡ None
     pub seen : me.0.seen ≡ None
     pub slot : me.1 ≡ []
