@@ -2,3 +2,4 @@ pub mod Counting
 pub mod Claiming
 pub mod Alone
 pub mod Splitting
+pub mod Joining
