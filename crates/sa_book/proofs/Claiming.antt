@@ -113,25 +113,25 @@ module _ {W P : Type 0} where
   pub record IsQuiet (v w : View W P) : Type 0 where
     pub gathered : w.gathered ≡ v.gathered
     pub entries : w.entries ≡ v.entries
-    pub ticket : w.ticket ≡ v.ticket
     pub seen : w.seen ≡ v.seen
+    pub unseen : v.seen ≡ None
 
-  book_kept : (m : Parts P) (terms : Terms W) (n n2 : ℕ) (words : List ℕ) (homes : List (Home (Option (Pages P)))) (vs : List (View W P)) (i : ℕ) (v w : View W P) (pages : Pages P) (owners owners2 : List ℕ) (core core2 : State P)
-      → get_elem? vs i ≡ some v → IsQuiet v w
+  pub book_kept : (m : Parts P) (terms : Terms W) (words words2 : List ℕ) (homes : List (Home (Option (Pages P)))) (vs : List (View W P)) (i : ℕ) (v w : View W P) (pages : Pages P) (owners owners2 : List ℕ) (core core2 : State P)
+      → slice_index words2 2 ≡ slice_index words 2 → get_elem? vs i ≡ some v → IsQuiet v w
       → length owners2 ≡ claims (set vs i w)
       → Each (IsOwner owners2 core2) (set vs i w)
       → replayed m (map Claim owners2 ++ pages.history.items) (opened m terms.job.branches) ≡ Ok core2
       → core2.merged ≡ core.merged
       → core2.next ≡ claims (set vs i w)
-      → Written m terms (n ∷ words) homes vs pages owners core
-      → Written m terms (n2 ∷ words) homes (set vs i w) pages owners2 core2
-  book_kept m terms n n2 words homes vs i v w pages owners owners2 core core2 at quiet owned owner accepted merged next h = record {
-    served = h.served;
+      → Written m terms words homes vs pages owners core
+      → Written m terms words2 homes (set vs i w) pages owners2 core2
+  book_kept m terms words words2 homes vs i v w pages owners owners2 core core2 same_served at quiet owned owner accepted merged next h = record {
+    served = same_served ∙ h.served;
     weighed = λ f. h.weighed f ∙ sym (total_kept (λ u. total (λ e. f e.event) u.entries) vs i v w at (ap (total (λ e. f e.event)) quiet.entries));
-    tickets = λ x. total_kept (λ u. total (λ e. same x e.ticket) u.entries) vs i v w at (ap (total (λ e. same x e.ticket)) quiet.entries) ∙ h.tickets x;
+    tickets = λ x. total_kept (λ u. total (λ e. same x e.ticket) u.entries) vs i v w at (ap (total (λ e. same x e.ticket)) quiet.entries) ∙ h.tickets x ∙ ap (once_below x) (sym same_served);
     placed = each_set (IsPlaced pages.history.items) vs i w (placed_as pages.history.items v w quiet (h.placed i v at)) h.placed;
     quiet = λ none_seen. h.quiet (each_unset (λ u. u.seen ≡ None) vs i v w at (λ e. sym quiet.seen ∙ e) none_seen);
-    at_work = each_set (IsAtWork homes (slice_index (n ∷ words) 2) pages) vs i w (λ seen e. let old = h.at_work i v at seen (sym quiet.seen ∙ e) in (old.0, quiet.ticket ∙ old.1, old.2)) h.at_work;
+    at_work = subst (λ n. Each (IsAtWork homes n pages) (set vs i w)) (sym same_served) (each_set (IsAtWork homes (slice_index words 2) pages) vs i w (λ seen e. absurd (no_pages seen (sym (quiet.seen ∙ quiet.unseen) ∙ e))) h.at_work);
     owned = owned;
     owner = owner;
     filings = h.filings;
@@ -141,6 +141,8 @@ module _ {W P : Type 0} where
     room = h.room;
   }
     where
+      no_pages : (seen : Pages P) → ◌≡◌ {A = Option (Pages P)} None (Some seen) → ⊥
+      no_pages seen e = cc
       placed_as : (history : List Event) (v w : View W P) → IsQuiet v w → IsPlaced history v → IsPlaced history w
       placed_as history v w q p = record {
         place = subst (Each (λ e. get_elem? history e.ticket ≡ some e.event)) (sym q.entries) p.place;
@@ -159,10 +161,10 @@ module _ {W P : Type 0} where
   module _ {Fits : P → Type 0} {m : Parts P} (laws : MergeLaws Fits m) where
     -- the book after a draw of a branch
     book_drawn : (terms : Terms W) (n n2 : ℕ) (words : List ℕ) (homes : List (Home (Option (Pages P)))) (vs : List (View W P)) (i : ℕ) (v : View W P) (pages : Pages P) (owners : List ℕ) (core : State P)
-        → get_elem? vs i ≡ some v → v.held ≡ None → n < terms.job.branches → claims vs ≡ n → claims (set vs i (holding n v)) ≡ n + 1
+        → get_elem? vs i ≡ some v → v.held ≡ None → v.seen ≡ None → n < terms.job.branches → claims vs ≡ n → claims (set vs i (holding n v)) ≡ n + 1
         → Written m terms (n ∷ words) homes vs pages owners core
         → Written m terms (n2 ∷ words) homes (set vs i (holding n v)) pages (owners ++ v.seat ∷ []) (claimed v.seat core)
-    book_drawn terms n n2 words homes vs i v pages owners core at free lt is more h =
+    book_drawn terms n n2 words homes vs i v pages owners core at free unseen lt is more h =
         let w = holding n v in
         let history = pages.history.items in
         let b = terms.job.branches in
@@ -180,8 +182,8 @@ module _ {W P : Type 0} where
           filed = λ j e a. at_longer owners (v.seat ∷ []) (branch_of e.event) (seat_of e.event) ((h.owner i v at).filed j e a);
           stands = λ k e. subst (λ j. branch_at (claimed v.seat core).branches j ≡ Held v.seat) (some_is n k e) here_held;
         } in
-        book_kept m terms n n2 words homes vs i v w pages owners (owners ++ v.seat ∷ []) core (claimed v.seat core) at
-        (record { gathered = refl; entries = refl; ticket = refl; seen = refl })
+        book_kept m terms (n ∷ words) (n2 ∷ words) homes vs i v w pages owners (owners ++ v.seat ∷ []) core (claimed v.seat core) refl at
+        (record { gathered = refl; entries = refl; seen = refl; unseen = unseen })
         (length_snoc owners v.seat ∙ ap (λ k. k + 1) (h.owned ∙ is) ∙ sym more)
         (each_set (IsOwner (owners ++ v.seat ∷ []) (claimed v.seat core)) vs i w mine (λ j u a. owner_longer owners (v.seat ∷ []) core (claimed v.seat core) u stay (h.owner j u a)))
         (ap (λ l. replayed m (l ++ history) (opened m b)) (map_snoc Claim owners v.seat) ∙ claims-first laws b v.seat (map Claim owners) history core h.accepted h.filings)
@@ -199,10 +201,10 @@ module _ {W P : Type 0} where
 
     -- the board after a draw of a branch
     drawn : (terms : Terms W) (n : ℕ) (words : List ℕ) (homes : List (Home (Option (Pages P)))) (vs : List (View W P)) (i : ℕ) (v : View W P)
-        → get_elem? vs i ≡ some v → v.terms ≡ Some terms → v.held ≡ None → v.ticket ≡ None → n < terms.job.branches
+        → get_elem? vs i ≡ some v → v.terms ≡ Some terms → v.held ≡ None → v.seen ≡ None → v.ticket ≡ None → n < terms.job.branches
         → Holds m terms (record { words = n ∷ words; homes = homes; views = vs })
         → Holds m terms (record { words = (n + 1) % 2 ^ 64 ∷ words; homes = homes; views = set vs i (holding n v) })
-    drawn terms n words homes vs i v at of_board free idle lt h =
+    drawn terms n words homes vs i v at of_board free unseen idle lt h =
         let l = live terms v of_board (h.seats.fits i v at) in
         let b = branches_drawn terms n words vs i v at free lt h.branches in
         record {
@@ -210,15 +212,15 @@ module _ {W P : Type 0} where
           seats = seats_kept terms vs i v (holding n v) at refl refl (record { of_board = l.of_board; spares = l.spares; seat = l.seat; over = l.over; over_few = l.over_few; entries = l.entries }) h.seats;
           branches = b.2;
           tickets = tickets_kept n ((n + 1) % 2 ^ 64) words vs i v (holding n v) at refl idle h.tickets;
-          book = (h.book.0, h.book.1 ++ v.seat ∷ [], claimed v.seat h.book.2, book_drawn terms n ((n + 1) % 2 ^ 64) words homes vs i v h.book.0 h.book.1 h.book.2 at free lt b.1 b.0 h.book.3);
+          book = (h.book.0, h.book.1 ++ v.seat ∷ [], claimed v.seat h.book.2, book_drawn terms n ((n + 1) % 2 ^ 64) words homes vs i v h.book.0 h.book.1 h.book.2 at free unseen lt b.1 b.0 h.book.3);
         }
 
     -- the board after a draw past the last branch
     passed : (terms : Terms W) (n : ℕ) (words : List ℕ) (homes : List (Home (Option (Pages P)))) (vs : List (View W P)) (i : ℕ) (v : View W P)
-        → get_elem? vs i ≡ some v → v.terms ≡ Some terms → v.over ≡ [] → v.ticket ≡ None → terms.job.branches ≤ n
+        → get_elem? vs i ≡ some v → v.terms ≡ Some terms → v.over ≡ [] → v.seen ≡ None → v.ticket ≡ None → terms.job.branches ≤ n
         → Holds m terms (record { words = n ∷ words; homes = homes; views = vs })
         → Holds m terms (record { words = (n + 1) % 2 ^ 64 ∷ words; homes = homes; views = set vs i (marked_over v) })
-    passed terms n words homes vs i v at of_board unmarked idle ge h =
+    passed terms n words homes vs i v at of_board unmarked unseen idle ge h =
         let l = live terms v of_board (h.seats.fits i v at) in
         let w = marked_over v in
         let b = branches_passed terms n words vs i v at ge h.seats h.branches in
@@ -237,8 +239,8 @@ module _ {W P : Type 0} where
           }) h.seats;
           branches = b.1;
           tickets = tickets_kept n ((n + 1) % 2 ^ 64) words vs i v w at refl idle h.tickets;
-          book = (h.book.0, h.book.1, h.book.2, book_kept m terms n ((n + 1) % 2 ^ 64) words homes vs i v w h.book.0 h.book.1 h.book.1 h.book.2 h.book.2 at
-            (record { gathered = refl; entries = refl; ticket = refl; seen = refl })
+          book = (h.book.0, h.book.1, h.book.2, book_kept m terms (n ∷ words) ((n + 1) % 2 ^ 64 ∷ words) homes vs i v w h.book.0 h.book.1 h.book.1 h.book.2 h.book.2 refl at
+            (record { gathered = refl; entries = refl; seen = refl; unseen = unseen })
             (k.owned ∙ sym b.0)
             (each_set (IsOwner h.book.1 h.book.2) vs i w (record { holds = o.holds; filed = o.filed; stands = o.stands }) k.owner)
             k.accepted refl (k.next ∙ sym b.0) k);
@@ -253,22 +255,22 @@ module _ {W P : Type 0} where
 
     -- either way the step is one that the rule allows
     drawn_or_passed : (terms : Terms W) (v : View W P) (words : List ℕ) (homes : List (Home (Option (Pages P)))) (vs : List (View W P)) (i : ℕ) (c : List (ℕ × Option (Pages P)))
-        → v.terms ≡ Some terms → v.ticket ≡ None → v.held ≡ None → v.over ≡ []
+        → v.terms ≡ Some terms → v.ticket ≡ None → v.seen ≡ None → v.held ≡ None → v.over ≡ []
         → Holds m terms (record { words = words; homes = homes; views = vs }) → get_elem? vs i ≡ some v
         → (w : View W P) × (a : Act (Option (Pages P))) × Valid homes c a
         × Holds m terms (stepped (record { words = words; homes = homes; views = vs }) 0 ((slice_index words 0 + 1) % 2 ^ 64) i c w a)
         × (Claimed v (slice_index words 0) w × (carried_after c a ≡ c))
-    drawn_or_passed terms v [] homes vs i c of_board idle free unmarked h at = absurd (omega (arith, h.words))
-    drawn_or_passed terms v (n ∷ words) homes vs i c of_board idle free unmarked h at =
+    drawn_or_passed terms v [] homes vs i c of_board idle unseen free unmarked h at = absurd (omega (arith, h.words))
+    drawn_or_passed terms v (n ∷ words) homes vs i c of_board idle unseen free unmarked h at =
         let b_is : branches_of v ≡ terms.job.branches = ap (λ (t : Option (Terms W)). elim t [ None ↦ 0 | Some t ↦ t.job.branches ]) of_board in
         elim (cases_Bool (nat_lt n (branches_of v))) [
           | inl t ↦ let less : n < terms.job.branches = grind (arith, nat_tests, t, b_is) in
-              (holding n v, keeps, tt, drawn terms n words homes vs i v at of_board free idle less h, (rw t refl, refl))
+              (holding n v, keeps, tt, drawn terms n words homes vs i v at of_board free unseen idle less h, (rw t refl, refl))
           | inr f ↦ let least : terms.job.branches ≤ n = grind (arith, nat_tests, f, b_is) in
-              (marked_over v, keeps, tt, passed terms n words homes vs i v at of_board unmarked idle least h, (rw f refl, refl))
+              (marked_over v, keeps, tt, passed terms n words homes vs i v at of_board unmarked unseen idle least h, (rw f refl, refl))
         ]
 
     -- a claim may be made
     pub claims_allowed : (terms : Terms W) (slots number spares id : ℕ) (me : Me (Option (Pages P)) (View W P)) → IsAtRest terms number spares me → me.0.held ≡ None → me.0.over ≡ []
         → Allows (Holds m terms) slots id me 0 (λ n. (n + 1) % 2 ^ 64) (λ found after. Claimed me.0 found after.0 × (after.1 ≡ me.1))
-    claims_allowed terms slots number spares id me rest free unmarked s h len at lt = drawn_or_passed terms me.0 s.words s.homes s.views id me.1 rest.of_board rest.ticket free unmarked h at
+    claims_allowed terms slots number spares id me rest free unmarked s h len at lt = drawn_or_passed terms me.0 s.words s.homes s.views id me.1 rest.of_board rest.ticket rest.seen free unmarked h at

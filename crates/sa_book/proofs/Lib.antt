@@ -3,3 +3,5 @@ pub mod Claiming
 pub mod Alone
 pub mod Splitting
 pub mod Joining
+pub mod Waiting
+pub mod Serving

@@ -2,8 +2,10 @@
 #![tactic(auto)]
 
 mod board;
+mod entry;
 mod view;
 
 pub use board::{Board, BoardRule, Pass};
+pub use entry::{Entry, Filing};
 pub use sa_core::OutOfMemory;
 pub use view::{Pages, Slip, Terms, View};
