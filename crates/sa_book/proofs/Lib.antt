@@ -5,3 +5,4 @@ pub mod Splitting
 pub mod Joining
 pub mod Waiting
 pub mod Serving
+pub mod Turns

@@ -68,7 +68,7 @@ rising_snoc (x ∷ xs) n below r = (each_snoc (λ y. x < y) xs n (below 0 x refl
 
 -- the tickets of a seat are tickets of entries
 tickets_below : (w n : ℕ) (entries : List Slip) → Each (λ e. e.ticket < n) entries → Each (λ t. t < n) (tickets_by w entries)
-tickets_below w n [] h i t at = absurd (some-ne-none t (sym at))
+tickets_below w n [] h = λ i t at. absurd (some-ne-none t (sym at))
 tickets_below w n (e ∷ entries) h = elim (seat_of e.event == w) as (λ b. Each (λ t. t < n) (cond b (e.ticket ∷ tickets_by w entries) (tickets_by w entries))) [
   | true ↦ more e.ticket (tickets_by w entries) (h 0 e refl) (tickets_below w n entries (λ i x at. h (suc i) x at))
   | false ↦ tickets_below w n entries (λ i x at. h (suc i) x at)
@@ -116,7 +116,7 @@ module _ {P : Type 0} where
 
 module _ {W P : Type 0} where
   -- the view of whoever served
-  wrote : ℕ → Event → View W P → View W P
+  abbrev wrote : ℕ → Event → View W P → View W P
   wrote t e v = record v { held = None; ticket = None; seen = None; entries = v.entries ++ slip t e ∷ [] }
 
   -- two passes don't hold one branch
@@ -260,3 +260,63 @@ module _ {W P : Type 0} where
       no_pages seen e = cc
       no_number : (n : ℕ) → ◌≡◌ {A = Option ℕ} None (Some n) → ⊥
       no_number n e = cc
+
+  serve_at : (m : Parts P) (terms : Terms W) (what : ℕ → ℕ → Event) (f : P → P) (seat branch ticket : ℕ) (pages longer : Pages P) (v : View W P) (words : List ℕ) (homes : List (Home (Option (Pages P)))) (vs : List (View W P)) (i : ℕ)
+      → IsWorking terms seat branch ticket pages v → IsFilingOf m (what v.seat branch) v.seat branch f
+      → longer.history.items ≡ pages.history.items ++ what v.seat branch ∷ [] → longer.merged ≡ f pages.merged → vec_capacity longer.history ≡ vec_capacity pages.history
+      → Holds m terms (record { words = words; homes = homes; views = vs }) → get_elem? vs i ≡ some v
+      → (w : View W P) × (a : Act (Option (Pages P))) × Valid homes ((0, Some longer) ∷ []) a
+      × Holds m terms (stepped (record { words = words; homes = homes; views = vs }) 2 ((slice_index words 2 + 1) % 2 ^ 64) i ((0, Some longer) ∷ []) w a)
+      × ◌≡◌ {A = Me (Option (Pages P)) (View W P)} (w, carried_after ((0, Some longer) ∷ []) a) (serving what v, [])
+  serve_at m terms what f seat branch ticket pages longer v [] homes vs i work filing grown merged kept h at = absurd (omega (arith, h.words))
+  serve_at m terms what f seat branch ticket pages longer v (x ∷ []) homes vs i work filing grown merged kept h at = absurd (omega (arith, h.words))
+  serve_at m terms what f seat branch ticket pages longer v (x ∷ y ∷ []) homes vs i work filing grown merged kept h at = absurd (omega (arith, h.words))
+  serve_at m terms what f seat branch ticket pages longer v (x ∷ y ∷ z ∷ []) homes vs i work filing grown merged kept h at =
+      let busy = h.book.3.at_work i v at pages work.seen in
+      let e = what v.seat branch in
+      let view_is : serving what v ≡ wrote z e v =
+          ap (λ n. wrote n (what v.seat (number_in v.held)) v) (ap number_in busy.1) ∙ ap (λ n. wrote z (what v.seat n) v) (ap number_in work.held) in
+      let kept_rule = serve_keeps m terms e f x y z ((z + 1) % 2 ^ 64) homes vs i branch v longer at work.of_board work.held busy.1 refl filing h
+          (grown ∙ ap (λ (p : Pages P). p.history.items ++ e ∷ []) busy.0) (merged ∙ ap (λ (p : Pages P). f p.merged) busy.0) (kept ∙ ap (λ (p : Pages P). vec_capacity p.history) busy.0) in
+      (serving what v, gives, tt,
+        subst (λ hs. Holds m terms (record { words = x ∷ y ∷ (z + 1) % 2 ^ 64 ∷ []; homes = set hs 0 (some (Some longer)); views = set vs i (serving what v) })) (sym busy.2)
+        (subst (λ u. Holds m terms (record { words = x ∷ y ∷ (z + 1) % 2 ^ 64 ∷ []; homes = some (Some longer) ∷ []; views = set vs i u })) (sym view_is) kept_rule),
+        refl)
+  serve_at m terms what f seat branch ticket pages longer v (x ∷ y ∷ z ∷ u ∷ ws) homes vs i work filing grown merged kept h at = absurd (omega (arith, h.words))
+
+  serves : (m : Parts P) (terms : Terms W) (what : ℕ → ℕ → Event) (f : P → P) (slots seat branch ticket id : ℕ) (pages longer : Pages P) (me : Me (Option (Pages P)) (View W P))
+      → IsWorking terms seat branch ticket pages me.0 → IsFilingOf m (what me.0.seat branch) me.0.seat branch f → me.1 ≡ (0, Some longer) ∷ []
+      → longer.history.items ≡ pages.history.items ++ what me.0.seat branch ∷ [] → longer.merged ≡ f pages.merged → vec_capacity longer.history ≡ vec_capacity pages.history
+      → Allows (Holds m terms) slots id me 2 (λ n. (n + 1) % 2 ^ 64) (λ found after. after ≡ (serving what me.0, []))
+  serves m terms what f slots seat branch ticket id pages longer me work filing slot grown merged kept =
+      let out : Me (Option (Pages P)) (View W P) = (me.0, (0, Some longer) ∷ []) in
+      let me_is : me ≡ out = ap (λ l. (me.0, l)) slot in
+      subst (λ (z : Me (Option (Pages P)) (View W P)). Allows (Holds m terms) slots id z 2 (λ n. (n + 1) % 2 ^ 64) (λ found after. after ≡ (serving what z.0, []))) (sym me_is)
+      (λ s h len at lt. serve_at m terms what f seat branch ticket pages longer me.0 s.words s.homes s.views id work filing grown merged kept h at)
+
+  -- the seat that files has the turn, and the slot has the book with its part and its event more
+  pub files_allowed : (m : Parts P) (terms : Terms W) (slots seat branch ticket id : ℕ) (pages longer : Pages P) (me : Me (Option (Pages P)) (View W P)) → IsWorking terms seat branch ticket pages me.0 → me.1 ≡ (0, Some longer) ∷ []
+      → (got : Pages P) → IsLonger (File seat branch) (m.merge_of pages.merged (m.part_of branch)) got longer → got.history ≡ pages.history
+      → Allows (Holds m terms) slots id me 2 (λ n. (n + 1) % 2 ^ 64) (λ found after. after ≡ (serving File me.0, []))
+  files_allowed m terms slots seat branch ticket id pages longer me work slot got more same_history =
+      serves m terms File (λ p. m.merge_of p (m.part_of branch)) slots seat branch ticket id pages longer me work (filing-file m me.0.seat branch) slot
+      (more.history ∙ ap (λ h. h.items ++ File seat branch ∷ []) same_history ∙ ap (λ s. pages.history.items ++ File s branch ∷ []) (sym work.seat_is))
+      more.merged_is (more.room ∙ ap vec_capacity same_history)
+
+  -- the same for a branch that is given up
+  pub gives_up_allowed : (m : Parts P) (terms : Terms W) (slots seat branch ticket id : ℕ) (pages longer : Pages P) (me : Me (Option (Pages P)) (View W P)) → IsWorking terms seat branch ticket pages me.0 → me.1 ≡ (0, Some longer) ∷ []
+      → (got : Pages P) → IsLonger (Gave seat branch) pages.merged got longer → got.history ≡ pages.history
+      → Allows (Holds m terms) slots id me 2 (λ n. (n + 1) % 2 ^ 64) (λ found after. after ≡ (serving Gave me.0, []))
+  gives_up_allowed m terms slots seat branch ticket id pages longer me work slot got more same_history =
+      serves m terms Gave (λ p. p) slots seat branch ticket id pages longer me work (filing-gave m me.0.seat branch) slot
+      (more.history ∙ ap (λ h. h.items ++ Gave seat branch ∷ []) same_history ∙ ap (λ s. pages.history.items ++ Gave s branch ∷ []) (sym work.seat_is))
+      more.merged_is (more.room ∙ ap vec_capacity same_history)
+
+-- the book in the first slot of a list
+abbrev first_of : {P : Type 0} → Pages P → List (ℕ × Option (Pages P)) → Pages P
+first_of d [] = d
+first_of d (x ∷ xs) = elim x.1 [ None ↦ d | Some pages ↦ pages ]
+
+-- a list of one slot tells its book
+pub same_slot : {P : Type 0} (x y : Pages P) → ◌≡◌ {A = List (ℕ × Option (Pages P))} ((0, Some x) ∷ []) ((0, Some y) ∷ []) → x ≡ y
+same_slot x y e = ap (first_of x) e
