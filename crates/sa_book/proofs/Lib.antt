@@ -6,3 +6,4 @@ pub mod Joining
 pub mod Waiting
 pub mod Serving
 pub mod Turns
+pub mod Ends

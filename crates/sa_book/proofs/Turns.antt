@@ -18,16 +18,3 @@ module _ {W P : Type 0} where
       let known : drawn.0.terms ≡ Some terms = ap (λ (v : View W P). v.terms) v_is ∙ rest.of_board in
       (pages, t, subst (IsWorking terms seat branch t pages) (sym w_is) work, ap (λ (m : Me (Option (Pages P)) (View W P)). m.1) sees.1,
         subst (λ (o : Option (Terms W)). let p : Type 0 = elim o [ None ↦ Unit {0} | Some terms ↦ Fits terms.job.work pages.merged ] in p) known sees.2, sees.3)
-
-  -- the view after the serve is that of a filing
-  pub filed_by : (Fits : W → P → Type 0) (what : ℕ → ℕ → Event) (terms : Terms W) (seat branch t number spares : ℕ) (me drawn seen after : Me (Option (Pages P)) (View W P)) → IsAtRest terms number spares me → seat ≡ number → me.0.held ≡ Some branch → drawn ≡ (drawing t me.0, []) → Sees Fits drawn.0 seen → after ≡ (serving what seen.0, [])
-      → IsFiled (what seat branch) me.0 after.0 × IsAtRest terms number spares after
-  filed_by Fits what terms seat branch t number spares me drawn seen after rest seat_is held drew sees served =
-      let pages = sees.0 in
-      let v = me.0 in
-      let v_is : drawn.0 ≡ drawing t v = ap (λ (m : Me (Option (Pages P)) (View W P)). m.0) drew in
-      let w_is : seen.0 ≡ seeing pages (drawing t v) = ap (λ (m : Me (Option (Pages P)) (View W P)). m.0) sees.1 ∙ ap (seeing pages) v_is in
-      let event_is : what v.seat (number_in v.held) ≡ what seat branch = ap (λ n. what v.seat (number_in n)) held ∙ ap (λ s. what s branch) (rest.number_is ∙ sym seat_is) in
-      let after_is : after ≡ (filed t (what seat branch) v, []) = served ∙ ap (λ (u : View W P). (serving what u, [])) w_is ∙ ap (λ e. (filed t e v, [])) event_is in
-      let at_rest : IsAtRest terms number spares (filed t (what seat branch) v, []) = record { of_board = rest.of_board; number_is = rest.number_is; spares_are = rest.spares_are; spares_fit = rest.spares_fit; ticket = refl; seen = refl; slot = refl } in
-      ((t, ap (λ (m : Me (Option (Pages P)) (View W P)). m.0) after_is), subst (IsAtRest terms number spares) (sym after_is) at_rest)

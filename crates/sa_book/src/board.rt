@@ -2,6 +2,7 @@
 
 ghost use Rattle.std.specs.Prelude.{◌≡◌, ◌<◌, ◌≤◌, ◌+◌, ◌-◌, ℕ, [], ◌∷◌, Some, None, IfOk, IfSome, IfNone, IsOk, IsTrue, MatchBool, MatchResult};
 ghost use Rattle.sa_book.specs.Rule.{Holds};
+ghost use Rattle.sa_book.specs.Closing.{HasAll, IsBookOf};
 ghost use Rattle.sa_book.specs.Steps.{Claimed, holding, marked_over, parting, parted, both, nothing, first_view, drawing, serving, Looked, Sees, IsAtRest, IsIdle, IsWorking, IsLonger, IsFiled, HasPart, HasTurn, event_of, gives_up};
 ghost use Rattle.std.specs.Vec.{vec_len, vec_capacity};
 ghost use Rattle.sa_book.specs.declared.view.Pages.{Pages};
@@ -84,6 +85,13 @@ pub struct Board<W: Work> {
     ghost key: { table.shared.key ≡ terms },
 }
 
+/// What a closed board leaves: the job, one event for each entry in the order of filing, and the merge of the filed parts.
+pub struct Book<W: Work> {
+    pub job: Job<W>,
+    pub history: Vec<Event>,
+    pub merged: W::Part,
+}
+
 /// A pass to a board. One thread has it; its view says what was done with it.
 #[derive(Drop)]
 pub struct Pass<W: Work> {
@@ -93,6 +101,59 @@ pub struct Pass<W: Work> {
 }
 
 impl<W: Work> Board<W> {
+    /// A board of the job with so many seats, and the pass of seat 0, which has the other seats' numbers spare. It takes the
+    /// room for one event of each branch here.
+    pub fn open(
+        alloc: Global,
+        job: Job<W>,
+        seats: u32,
+    ) -> Result<(Board<W>, Pass<W>), OutOfMemory>
+        requires seats { (1 ≤ seats) × (seats ≤ 64) }
+        requires branches { (1 ≤ job.branches) × (job.branches ≤ 1025) }
+        ensures terms { IfOk result (λ r. r.0.terms ≡ record { job = job; seats = seats }) }
+        ensures of_board { IfOk result (λ r. (r.1.token.table_id ≡ r.0.table.shared.table_id) × IsAtRest r.0.terms r.1.number r.1.spares r.1.token.me) }
+        ensures first { IfOk result (λ r. r.1.token.me.0 ≡ first_view r.0.terms) }
+    {
+        let history = Vec::with_capacity(alloc, job.branches as usize)?;
+        let merged = job.work.none();
+        let mut slots = Vec::with_capacity(alloc, 1)?;
+        slots.push_reserved(Some(Pages { history, merged }));
+        let terms = Terms { job, seats };
+        match Table::new(alloc, &[0, 0, 0], slots, &terms) {
+            Ok((table, token)) => Ok((
+                Board { table, terms },
+                Pass {
+                    token,
+                    number: 0,
+                    spares: seats - 1,
+                },
+            )),
+            Err(_) => Err(OutOfMemory),
+        }
+    }
+
+    /// Closes the board with the one pass that remains, and gives its book.
+    pub fn close(self, pass: Pass<W>) -> Book<W>
+        requires of_board { (pass.token.table_id ≡ self.table.shared.table_id) × IsAtRest self.terms pass.number pass.spares pass.token.me }
+        requires free { pass.token.me.0.held ≡ None }
+        requires all { HasAll self.terms.seats pass.token.me.0 }
+        ensures job { result.job ≡ self.terms.job }
+        ensures book { IsBookOf (W.parts self.terms.job.work) self.terms pass.token.me.0 result.history.items result.merged }
+    {
+        let Board { table, terms } = self;
+        let mut closed = table.close_with(pass.token);
+        let slot = closed.take(0);
+        closed.free();
+        match slot {
+            Some(pages) => Book {
+                job: terms.job,
+                history: pages.history,
+                merged: pages.merged,
+            },
+            None => unreachable!(),
+        }
+    }
+
     /// What the board was opened with.
     pub fn job(&self) -> &Job<W>
         ensures { result.now ≡ self.now.terms.job }

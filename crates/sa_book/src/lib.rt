@@ -5,7 +5,7 @@ mod board;
 mod entry;
 mod view;
 
-pub use board::{Board, BoardRule, Pass};
+pub use board::{Board, BoardRule, Book, Pass};
 pub use entry::{Entry, Filing};
 pub use sa_core::OutOfMemory;
 pub use view::{Pages, Slip, Terms, View};
