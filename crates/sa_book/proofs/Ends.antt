@@ -22,7 +22,7 @@ use Rattle.sa_book.specs.Counts.{total, same, times, times_in, count_in, once_be
 use Rattle.sa_book.specs.Rule.{Holds, Seats, Branches, Tickets, Written, IsLive, IsSpent, IsPlaced, IsOwner, IsAtWork, numbers, uses, claims, overs, by_seat, events_of, seat_of, branch_of}
 use Rattle.sa_book.specs.Steps.{first_view, IsAtRest}
 use Rattle.sa_book.specs.Closing.{HasAll, IsBookOf}
-use Rattle.sa_book.proofs.Counting.{total_at, total_zero}
+use Rattle.sa_book.proofs.Counting.{total_at, total_two, total_zero}
 use Rattle.sa_book.proofs.Claiming.{live}
 use Rattle.sa_book.proofs.Alone.{same_self, below_once, decide, zero_or_more, nothing_by, no_own, none_of_seat, one_has}
 use Rattle.sa_book.proofs.Waiting.{total_plus, total_one}
@@ -93,15 +93,11 @@ module _ {W P : Type 0} where
     where
       or_spent : IsLive terms u ⊎ IsSpent u → IsSpent u
       or_spent (inr s) = s
-      or_spent (inl l) =
-          let x = u.seat in
-          let most = total_at (numbers terms.seats x) vs j u at_u in
-          let low : x < terms.seats = below_is (once_below x terms.seats) x terms.seats refl (omega (arith, most, h.each x, l.seat)) in
-          let none = one_has terms vs i j v u x h (λ e. ne (sym e)) at at_u (all x low) in
-          absurd (omega (arith, none, l.seat))
+      or_spent (inl l) = absurd (omega (arith, total_two (λ (z : View W P). length z.gathered + z.spares) vs i j v u (λ e. ne (sym e)) at at_u, h.sum, all, some_there u.seat u.gathered l.seat))
         where
-          below_is : (n x k : ℕ) → n ≡ once_below x k → 0 < n → x < k
-          below_is n x k e some_there = grind (arith, nat_tests)
+          some_there : (x : ℕ) (xs : List ℕ) → 0 < times x xs → 1 ≤ length xs
+          some_there x [] had = absurd (omega (arith, had))
+          some_there x (y ∷ ys) some_more = omega arith
 
   -- what holds of a pass that holds no branch and of a spent one holds of every pass
   each_other : (Q : View W P → Type 0) (terms : Terms W) (vs : List (View W P)) (i : ℕ) (v : View W P) → Seats terms vs → get_elem? vs i ≡ some v → HasAll terms.seats v → Q v → ((u : View W P) → IsSpent u → Q u) → Each Q vs

@@ -2,3 +2,4 @@ pub mod Counts
 pub mod Rule
 pub mod Steps
 pub mod Closing
+pub mod Passes

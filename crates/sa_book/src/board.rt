@@ -1,7 +1,7 @@
 //! The board and its passes.
 
 ghost use Rattle.std.specs.Prelude.{◌≡◌, ◌<◌, ◌≤◌, ◌+◌, ◌-◌, ℕ, [], ◌∷◌, Some, None, IfOk, IfSome, IfNone, IsOk, IsTrue, MatchBool, MatchResult};
-ghost use Rattle.sa_book.specs.Rule.{Holds};
+ghost use Rattle.sa_book.specs.Passes.{IsPassOf, seen_of};
 ghost use Rattle.sa_book.specs.Closing.{HasAll, IsBookOf};
 ghost use Rattle.sa_book.specs.Steps.{Claimed, holding, marked_over, parting, parted, both, nothing, first_view, drawing, serving, Looked, Sees, IsAtRest, IsIdle, IsWorking, IsLonger, IsFiled, HasPart, HasTurn, event_of, gives_up};
 ghost use Rattle.std.specs.Vec.{vec_len, vec_capacity};
@@ -10,95 +10,13 @@ ghost use Rattle.sa_core.specs.declared.event.Event.TheVariants.{File, Gave};
 
 use crate::OutOfMemory;
 use crate::entry::{Entry, Filing};
-use crate::view::{Pages, Terms, View};
-use atomic_table::{Join, Play, Seat, Split, Table, TableRule};
+use crate::view::{Pages, Terms};
+use crate::rule::{Board, Book, Claims, Draws, Files, GivesUp, Looks, Meets, Parts, Pass, Token};
+use atomic_table::Table;
 use sa_core::{Event, Job, Work};
 use std::alloc::Global;
-use std::marker::PhantomData;
 use std::sync::Wait;
 use std::thread;
-
-/// What holds of a board between any two steps.
-pub struct BoardRule<W>(PhantomData<W>);
-
-impl<W: Work> TableRule<Option<Pages<W::Part>>, View<W, W::Part>, Terms<W>> for BoardRule<W> {
-    ghost holds = { λ terms s. Holds (W.parts terms.job.work) terms s };
-
-    ghost first = { λ terms. first_view terms };
-}
-
-struct Claims;
-
-impl<W: Work> Play<Option<Pages<W::Part>>, View<W, W::Part>> for Claims {
-    ghost then = { λ s before found after. Claimed before.0 found after.0 × (after.1 ≡ before.1) };
-}
-
-struct Draws;
-
-impl<W: Work> Play<Option<Pages<W::Part>>, View<W, W::Part>> for Draws {
-    ghost then = { λ s before found after. after ≡ (drawing found before.0, before.1) };
-}
-
-struct Looks;
-
-impl<W: Work> Play<Option<Pages<W::Part>>, View<W, W::Part>> for Looks {
-    ghost then = { λ s before found after. Looked W.fits before found after };
-}
-
-struct Files;
-
-impl<W: Work> Play<Option<Pages<W::Part>>, View<W, W::Part>> for Files {
-    ghost then = { λ s before found after. after ≡ (serving File before.0, []) };
-}
-
-struct GivesUp;
-
-impl<W: Work> Play<Option<Pages<W::Part>>, View<W, W::Part>> for GivesUp {
-    ghost then = { λ s before found after. after ≡ (serving Gave before.0, []) };
-}
-
-struct Parts;
-
-impl<W: Work> Split<View<W, W::Part>> for Parts {
-    ghost left = { λ v. parting v };
-
-    ghost right = { λ v. parted v };
-}
-
-struct Meets;
-
-impl<W: Work> Join<View<W, W::Part>> for Meets {
-    ghost both = { λ v w. both v w };
-
-    ghost spent = { nothing };
-}
-
-/// What steps on the table: a view, and the slot while it is out.
-pub(crate) type Token<W> = Seat<Option<Pages<<W as Work>::Part>>, View<W, <W as Work>::Part>>;
-
-/// The board of a job. Its table has the branch word, the ticket word and the served word, and one slot for the book.
-pub struct Board<W: Work> {
-    pub(crate) table: Table<Option<Pages<W::Part>>, View<W, W::Part>, Terms<W>, BoardRule<W>, Global>,
-    pub(crate) terms: Terms<W>,
-    ghost words: { table.shared.table_id.words ≡ 3 },
-    ghost slots: { table.shared.table_id.slots ≡ 1 },
-    ghost key: { table.shared.key ≡ terms },
-}
-
-/// What a closed board leaves: the job, one event for each entry in the order of filing, and the merge of the filed parts.
-pub struct Book<W: Work> {
-    pub job: Job<W>,
-    pub history: Vec<Event>,
-    pub merged: W::Part,
-}
-
-/// A pass to a board. One thread has it; its view says what was done with it.
-#[derive(Drop)]
-pub struct Pass<W: Work> {
-    pub(crate) token: Seat<Option<Pages<W::Part>>, View<W, W::Part>>,
-    pub(crate) number: u32,
-    pub(crate) spares: u32,
-}
 
 impl<W: Work> Board<W> {
     /// A board of the job with so many seats, and the pass of seat 0, which has the other seats' numbers spare. It takes the
@@ -111,8 +29,8 @@ impl<W: Work> Board<W> {
         requires seats { (1 ≤ seats) × (seats ≤ 64) }
         requires branches { (1 ≤ job.branches) × (job.branches ≤ 1025) }
         ensures terms { IfOk result (λ r. r.0.terms ≡ record { job = job; seats = seats }) }
-        ensures of_board { IfOk result (λ r. (r.1.token.table_id ≡ r.0.table.shared.table_id) × IsAtRest r.0.terms r.1.number r.1.spares r.1.token.me) }
-        ensures first { IfOk result (λ r. r.1.token.me.0 ≡ first_view r.0.terms) }
+        ensures of_board { IfOk result (λ r. IsPassOf r.0 r.1) }
+        ensures first { IfOk result (λ r. seen_of r.1 ≡ first_view r.0.terms) }
     {
         let history = Vec::with_capacity(alloc, job.branches as usize)?;
         let merged = job.work.none();
@@ -134,11 +52,11 @@ impl<W: Work> Board<W> {
 
     /// Closes the board with the one pass that remains, and gives its book.
     pub fn close(self, pass: Pass<W>) -> Book<W>
-        requires of_board { (pass.token.table_id ≡ self.table.shared.table_id) × IsAtRest self.terms pass.number pass.spares pass.token.me }
-        requires free { pass.token.me.0.held ≡ None }
-        requires all { HasAll self.terms.seats pass.token.me.0 }
+        requires of_board { IsPassOf self pass }
+        requires free { (seen_of pass).held ≡ None }
+        requires all { HasAll self.terms.seats (seen_of pass) }
         ensures job { result.job ≡ self.terms.job }
-        ensures book { IsBookOf (W.parts self.terms.job.work) self.terms pass.token.me.0 result.history.items result.merged }
+        ensures book { IsBookOf (W.parts self.terms.job.work) self.terms (seen_of pass) result.history.items result.merged }
     {
         let Board { table, terms } = self;
         let mut closed = table.close_with(pass.token);
@@ -163,12 +81,12 @@ impl<W: Work> Board<W> {
 
     /// Cuts off a pass of the least spare number, for another thread.
     pub fn split(&self, pass: &mut Pass<W>) -> Pass<W>
-        requires of_board { (pass.old.token.table_id ≡ self.now.table.shared.table_id) × IsAtRest self.now.terms pass.old.number pass.old.spares pass.old.token.me }
-        requires spare { 0 < pass.old.token.me.0.spares }
-        ensures of_board { (pass.new.token.table_id ≡ self.now.table.shared.table_id) × IsAtRest self.now.terms pass.new.number pass.new.spares pass.new.token.me }
-        ensures new_of_board { (result.token.table_id ≡ self.now.table.shared.table_id) × IsAtRest self.now.terms result.number result.spares result.token.me }
-        ensures left { pass.new.token.me.0 ≡ parting pass.old.token.me.0 }
-        ensures right { result.token.me.0 ≡ parted pass.old.token.me.0 }
+        requires of_board { IsPassOf self.now pass.old }
+        requires spare { 0 < (seen_of pass.old).spares }
+        ensures of_board { IsPassOf self.now pass.new }
+        ensures new_of_board { IsPassOf self.now result }
+        ensures left { (seen_of pass.new) ≡ parting (seen_of pass.old) }
+        ensures right { (seen_of result) ≡ parted (seen_of pass.old) }
     {
         let token = self.table.shared.split_seat::<Parts>(&mut pass.token);
         let number = self.terms.seats - pass.spares;
@@ -182,12 +100,12 @@ impl<W: Work> Board<W> {
 
     /// Takes the next branch, in one step and without waiting, or none where all are out.
     pub fn claim(&self, pass: &mut Pass<W>) -> Option<u32>
-        requires of_board { (pass.old.token.table_id ≡ self.now.table.shared.table_id) × IsAtRest self.now.terms pass.old.number pass.old.spares pass.old.token.me }
-        requires free { pass.old.token.me.0.held ≡ None }
-        requires unmarked { pass.old.token.me.0.over ≡ [] }
-        ensures of_board { (pass.new.token.table_id ≡ self.now.table.shared.table_id) × IsAtRest self.now.terms pass.new.number pass.new.spares pass.new.token.me }
-        ensures some { IfSome result (λ k. (k < self.now.terms.job.branches) × (pass.new.token.me.0 ≡ holding k pass.old.token.me.0)) }
-        ensures none { IfNone result (pass.new.token.me.0 ≡ marked_over pass.old.token.me.0) }
+        requires of_board { IsPassOf self.now pass.old }
+        requires free { (seen_of pass.old).held ≡ None }
+        requires unmarked { (seen_of pass.old).over ≡ [] }
+        ensures of_board { IsPassOf self.now pass.new }
+        ensures some { IfSome result (λ k. (k < self.now.terms.job.branches) × ((seen_of pass.new) ≡ holding k (seen_of pass.old))) }
+        ensures none { IfNone result ((seen_of pass.new) ≡ marked_over (seen_of pass.old)) }
     {
         let drawn = self.table.shared.fetch_add::<Claims>(&mut pass.token, 0, 1);
         if drawn < self.terms.job.branches as u64 {
@@ -199,11 +117,11 @@ impl<W: Work> Board<W> {
 
     /// Makes one pass of two.
     pub fn meet(&self, a: Pass<W>, b: Pass<W>) -> Pass<W>
-        requires first { (a.token.table_id ≡ self.now.table.shared.table_id) × IsAtRest self.now.terms a.number a.spares a.token.me }
-        requires second { (b.token.table_id ≡ self.now.table.shared.table_id) × IsAtRest self.now.terms b.number b.spares b.token.me }
-        requires free { b.token.me.0.held ≡ None }
-        ensures of_board { (result.token.table_id ≡ self.now.table.shared.table_id) × IsAtRest self.now.terms result.number result.spares result.token.me }
-        ensures both { result.token.me.0 ≡ both a.token.me.0 b.token.me.0 }
+        requires first { IsPassOf self.now a }
+        requires second { IsPassOf self.now b }
+        requires free { (seen_of b).held ≡ None }
+        ensures of_board { IsPassOf self.now result }
+        ensures both { (seen_of result) ≡ both (seen_of a) (seen_of b) }
     {
         let Pass {
             mut token,
@@ -227,12 +145,12 @@ impl<W: Work> Board<W> {
         pass: &mut Pass<W>,
         entry: Entry<W::Part>,
     ) -> Result<(), OutOfMemory>
-        requires of_board { (pass.old.token.table_id ≡ self.now.table.shared.table_id) × IsAtRest self.now.terms pass.old.number pass.old.spares pass.old.token.me }
+        requires of_board { IsPassOf self.now pass.old }
         requires seat { entry.seat ≡ pass.old.number }
-        requires held { pass.old.token.me.0.held ≡ Some entry.branch }
+        requires held { (seen_of pass.old).held ≡ Some entry.branch }
         requires part { HasPart (W.parts self.now.terms.job.work) entry }
-        ensures of_board { (pass.new.token.table_id ≡ self.now.table.shared.table_id) × IsAtRest self.now.terms pass.new.number pass.new.spares pass.new.token.me }
-        ensures filed { MatchResult result (λ _. IsFiled (event_of entry) pass.old.token.me.0 pass.new.token.me.0) (λ _. IsFiled (Gave entry.seat entry.branch) pass.old.token.me.0 pass.new.token.me.0) }
+        ensures of_board { IsPassOf self.now pass.new }
+        ensures filed { MatchResult result (λ _. IsFiled (event_of entry) (seen_of pass.old) (seen_of pass.new)) (λ _. IsFiled (Gave entry.seat entry.branch) (seen_of pass.old) (seen_of pass.new)) }
         ensures sure { IsTrue (W.sure self.now.terms.job.work) → IsOk result }
         ensures gave { IsTrue (gives_up entry) → IsOk result }
     {
@@ -351,5 +269,14 @@ impl<W: Work> Board<W> {
         let pages = self.take(token);
         self.put(token, pages, Event::Gave(seat, branch));
         self.table.shared.fetch_add::<GivesUp>(token, 2, 1);
+    }
+}
+
+impl<W: Work> Pass<W> {
+    /// The number of its seat.
+    pub fn seat(&self) -> u32
+        ensures { result ≡ self.now.number }
+    {
+        self.number
     }
 }

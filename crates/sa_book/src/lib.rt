@@ -3,9 +3,10 @@
 
 mod board;
 mod entry;
+mod rule;
 mod view;
 
-pub use board::{Board, BoardRule, Book, Pass};
 pub use entry::{Entry, Filing};
+pub use rule::{Board, BoardRule, Book, Pass};
 pub use sa_core::OutOfMemory;
 pub use view::{Pages, Slip, Terms, View};
