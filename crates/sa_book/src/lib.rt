@@ -4,6 +4,8 @@
 mod board;
 mod entry;
 mod rule;
+#[cfg(test)]
+mod tests;
 mod view;
 
 pub use entry::{Entry, Filing};

@@ -70,6 +70,7 @@ impl<W: Work> Join<View<W, W::Part>> for Meets {
 pub(crate) type Token<W> = Seat<Option<Pages<<W as Work>::Part>>, View<W, <W as Work>::Part>>;
 
 /// The board of a job. Its table has the branch word, the ticket word and the served word, and one slot for the book.
+#[derive(Drop)]
 pub struct Board<W: Work> {
     pub(crate) table: Table<Option<Pages<W::Part>>, View<W, W::Part>, Terms<W>, BoardRule<W>, Global>,
     pub(crate) terms: Terms<W>,
@@ -79,6 +80,7 @@ pub struct Board<W: Work> {
 }
 
 /// What a closed board leaves: the job, one event for each entry in the order of filing, and the merge of the filed parts.
+#[derive(Drop)]
 pub struct Book<W: Work> {
     pub job: Job<W>,
     pub history: Vec<Event>,

@@ -1,6 +1,6 @@
 //! The board on real threads.
 
-ghost use Rattle.std.specs.Prelude.{◌≡◌, ◌<◌, ◌≤◌, ◌+◌, true, false, [], None, Some, IfOk, length};
+ghost use Rattle.std.specs.Prelude.{◌≡◌, ◌<◌, ◌≤◌, ◌+◌, ◌-◌, true, false, [], None, Some, IfOk, length};
 ghost use Rattle.std.specs.Thread.{IsSync};
 ghost use Rattle.sa_core.specs.Bits.{FitsBits, bits, bits_laws};
 ghost use Rattle.sa_book.specs.Passes.{IsPassOf, seen_of};
@@ -66,6 +66,13 @@ fn filing<W: Work, L: Ledger>(alloc: Global, work: &W, branch: u32, blank: Blank
     }
 }
 
+/// The same, with a counter of its own.
+fn uncounted<W: Work>(alloc: Global, work: &W, branch: u32) -> Filing<W::Part>
+    ensures { HasPart (W.parts work.now) record { seat = 0; branch = branch; what = result } }
+{
+    filing::<W, Brand>(alloc, work, branch, Blank::new(1))
+}
+
 /// Files the branch that the pass holds.
 fn file_one<R: Wait, W: Work>(
     rt: &R,
@@ -83,7 +90,7 @@ fn file_one<R: Wait, W: Work>(
     ensures spares { (seen_of pass.new).spares ≡ (seen_of pass.old).spares }
 {
     let seat = pass.seat();
-    let what = filing::<W, Brand>(alloc, &board.job().work, branch, Blank::new(1));
+    let what = uncounted(alloc, &board.job().work, branch);
     board.file(rt, alloc, pass, Entry { seat, branch, what })
 }
 
@@ -106,4 +113,139 @@ fn drain<R: Wait, W: Work>(rt: &R, alloc: Global, board: &Board<W>, mut pass: Pa
         }
     }
     unreachable!()
+}
+
+/// Claims and files with so many further passes, each in a thread of its own, and gives the one pass that remains.
+fn work<R: Threads + Wait + Sync, W: Work + Sync>(
+    rt: &R,
+    alloc: Global,
+    board: &Board<W>,
+    mut pass: Pass<W>,
+    further: u32,
+) -> Pass<W>
+    requires of_board { IsPassOf board.now pass }
+    requires free { (seen_of pass).held ≡ None }
+    requires unmarked { (seen_of pass).over ≡ [] }
+    requires further { (seen_of pass).spares ≡ further }
+    ensures of_board { IsPassOf board.now result }
+    ensures free { (seen_of result).held ≡ None }
+    ensures all { length (seen_of result).gathered ≡ length (seen_of pass).gathered + further }
+    ensures none_spare { (seen_of result).spares ≡ 0 }
+{
+    if further == 0 {
+        return drain(rt, alloc, board, pass);
+    }
+    let other = board.split(&mut pass);
+    let (mine, theirs) = join(
+        rt,
+        || -> Pass<W>
+            requires { IsSync R.row × IsSync W.row × IsPassOf board.now pass × ((seen_of pass).held ≡ None) × ((seen_of pass).over ≡ []) × ((seen_of pass).spares ≡ further - 1) }
+            ensures { IsPassOf board.entry.now result × ((seen_of result).held ≡ None) × (length (seen_of result).gathered ≡ length (seen_of pass).gathered + (further - 1)) × ((seen_of result).spares ≡ 0) }
+        { work(rt, alloc, board, pass, further - 1) },
+        || -> Pass<W>
+            requires { IsSync R.row × IsSync W.row × IsPassOf board.now other × ((seen_of other).held ≡ None) × ((seen_of other).over ≡ []) }
+            ensures { IsPassOf board.entry.now result × ((seen_of result).held ≡ None) × ((seen_of result).gathered ≡ (seen_of other).gathered) × ((seen_of result).spares ≡ (seen_of other).spares) }
+        { drain(rt, alloc, board, other) },
+    );
+    board.meet(mine, theirs)
+}
+
+/// The book of the job, by so many threads.
+fn spread<R: Threads + Wait + Sync, W: Work + Sync>(
+    rt: &R,
+    alloc: Global,
+    job: Job<W>,
+    seats: u32,
+) -> Result<Book<W>, OutOfMemory>
+    requires seats { (1 ≤ seats) × (seats ≤ 64) }
+    requires branches { (1 ≤ job.branches) × (job.branches ≤ 1025) }
+    ensures { IfOk result (λ book. book.job ≡ job) }
+{
+    let (board, pass) = Board::open(alloc, job, seats)?;
+    let whole = work(rt, alloc, &board, pass, seats - 1);
+    Ok(board.close(whole))
+}
+
+/// The worked row: two passes, three branches, filed in another order than claimed.
+fn two_seats<R: Wait>(rt: &R, alloc: Global) -> Result<Book<Bits>, OutOfMemory> {
+    let job = Job {
+        work: Bits,
+        branches: 3,
+    };
+    row(rt, alloc, job)
+}
+
+/// The row for any work: claims, filings and the meeting in the order of the worked row. A claim that finds nothing ends
+/// it.
+fn row<R: Wait, W: Work>(rt: &R, alloc: Global, job: Job<W>) -> Result<Book<W>, OutOfMemory>
+    requires branches { (1 ≤ job.branches) × (job.branches ≤ 1025) }
+{
+    let (board, mut a) = Board::open(alloc, job, 2)?;
+    let mut b = board.split(&mut a);
+    let first = board.claim(&mut a);
+    let second = board.claim(&mut b);
+    if let (Some(zero), Some(one)) = (first, second) {
+        let _ = file_one(rt, alloc, &board, &mut b, one);
+        let _ = file_one(rt, alloc, &board, &mut a, zero);
+        if let Some(two) = board.claim(&mut a) {
+            let _ = file_one(rt, alloc, &board, &mut a, two);
+        }
+        let _ = board.claim(&mut b);
+        let whole = board.meet(a, b);
+        return Ok(board.close(whole));
+    }
+    Err(OutOfMemory)
+}
+
+/// How often each of the first 128 branches was filed.
+fn times_filed(history: &[Event], branch: u32) -> usize {
+    let mut times = 0;
+    for event in history {
+        if let Event::File(_, filed) = event {
+            if *filed == branch && times < 1_000_000 {
+                times += 1;
+            }
+        }
+    }
+    times
+}
+
+#[test]
+fn two_seats_file_three_branches(rt: HostRuntime) -> Result<(), Fail> {
+    let book = two_seats(&rt, rt.alloc())?;
+    assert_eq!(rt;
+        book.history.as_slice(),
+        [Event::File(1, 1), Event::File(0, 0), Event::File(0, 2)].as_slice()
+    );
+    assert_eq!(rt; book.merged, 7);
+    Ok(())
+}
+
+#[test]
+fn eight_threads_file_a_hundred_branches(rt: HostRuntime) -> Result<(), Fail> {
+    for _ in 0..1_000 {
+        let job = Job {
+            work: Bits,
+            branches: 100,
+        };
+        let book = spread(&rt, rt.alloc(), job, 8)?;
+        assert_eq!(rt; book.merged, (1 << 100) - 1);
+        assert_eq!(rt; book.history.len(), 100);
+        for branch in 0..100 {
+            assert_eq!(rt; times_filed(book.history.as_slice(), branch), 1);
+        }
+    }
+    Ok(())
+}
+
+#[test]
+fn one_thread_takes_all(rt: HostRuntime) -> Result<(), Fail> {
+    let job = Job {
+        work: Bits,
+        branches: 128,
+    };
+    let book = spread(&rt, rt.alloc(), job, 1)?;
+    assert_eq!(rt; book.merged, u128::MAX);
+    assert_eq!(rt; book.history.len(), 128);
+    Ok(())
 }
