@@ -24,7 +24,7 @@ zero_or_more zero = inl refl
 zero_or_more (suc n) = inr (omega arith)
 
 pub decide : {P : Type 0} (i j : ℕ) → (i ≡ j → P) → (i ≢ j → P) → P
-decide i j if_same if_not = elim (cases_eq i j) [ | inl e ↦ if_same e | inr ne ↦ if_not ne ]
+decide i j if_same if_not = elim (cases_eq i j) [ inl e ↦ if_same e | inr ne ↦ if_not ne ]
 
 -- events that are counted 0 times aren't there
 pub no_events : (w : ℕ) (history : List Event) → total (λ e. same w (seat_of e)) history ≡ 0 → by_seat w history ≡ []

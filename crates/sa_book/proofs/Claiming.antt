@@ -65,19 +65,22 @@ module _ {W P : Type 0} where
       let o = total_kept (λ (u : View W P). length u.over) vs i v w at refl in
       let zero_over : overs vs ≡ 0 = elim (overs vs) as (λ k. overs vs ≡ k → overs vs ≡ 0) [ zero ↦ (λ e. e) | suc k ↦ (λ e. absurd (omega (arith, h.done (omega (arith, e)), h.word, e, lt))) ] refl in
       let n_is : claims vs ≡ n = omega (arith, h.word, zero_over) in
-      let more : claims (set vs i w) ≡ n + 1 = omega (arith, c, n_is, gone) in
-      (more, n_is, record {
-        word = omega (arith, more, o, zero_over, lt, h.few);
-        most = omega (arith, more, lt);
-        done = λ some_over. absurd (omega (arith, o, zero_over, some_over));
-        each = λ k.
-            let none_held : times_in k v.held ≡ 0 = ap (times_in k) free in
-            let t = total_set (uses k) vs i v w at in
-            let old : total (uses k) vs ≡ once_below k n = h.each k ∙ ap (once_below k) n_is in
-            let sum : total (uses k) (set vs i w) ≡ once_below k (n + 1) = omega (arith, t, none_held, old, once_more k n) in
-            sum ∙ ap (once_below k) (sym more);
-        few = h.few;
-      })
+      let more : claims (set vs i w) ≡ n + 1 = omega (arith, c, n_is, gone) in (
+        more,
+        n_is,
+        record {
+          word = omega (arith, more, o, zero_over, lt, h.few);
+          most = omega (arith, more, lt);
+          done = λ some_over. absurd (omega (arith, o, zero_over, some_over));
+          each = λ k.
+              let none_held : times_in k v.held ≡ 0 = ap (times_in k) free in
+              let t = total_set (uses k) vs i v w at in
+              let old : total (uses k) vs ≡ once_below k n = h.each k ∙ ap (once_below k) n_is in
+              let sum : total (uses k) (set vs i w) ≡ once_below k (n + 1) = omega (arith, t, none_held, old, once_more k n) in
+              sum ∙ ap (once_below k) (sym more);
+          few = h.few;
+        },
+      )
 
   -- the seat draws past the last branch
   branches_passed : (terms : Terms W) (n : ℕ) (words : List ℕ) (vs : List (View W P)) (i : ℕ) (v : View W P) → get_elem? vs i ≡ some v → terms.job.branches ≤ n → Seats terms vs → Branches terms (n ∷ words) vs
@@ -88,14 +91,16 @@ module _ {W P : Type 0} where
       let o = total_set (λ (u : View W P). length u.over) vs i v w at in
       let one_more : length w.over ≡ length v.over + 1 = longer v.over v.seat in
       let few = overs_few terms vs seats in
-      let all : claims vs ≡ terms.job.branches = elim (overs vs) as (λ k. overs vs ≡ k → claims vs ≡ terms.job.branches) [ zero ↦ (λ e. omega (arith, h.most, h.word, e, ge)) | suc k ↦ (λ e. h.done (omega (arith, e))) ] refl in
-      (c, record {
-        word = omega (arith, c, o, one_more, all, h.word, few, seats.few, h.few);
-        most = omega (arith, c, h.most);
-        done = λ some_over. c ∙ all;
-        each = λ k. total_kept (uses k) vs i v w at refl ∙ h.each k ∙ ap (once_below k) (sym c);
-        few = h.few;
-      })
+      let all : claims vs ≡ terms.job.branches = elim (overs vs) as (λ k. overs vs ≡ k → claims vs ≡ terms.job.branches) [ zero ↦ (λ e. omega (arith, h.most, h.word, e, ge)) | suc k ↦ (λ e. h.done (omega (arith, e))) ] refl in (
+        c,
+        record {
+          word = omega (arith, c, o, one_more, all, h.word, few, seats.few, h.few);
+          most = omega (arith, c, h.most);
+          done = λ some_over. c ∙ all;
+          each = λ k. total_kept (uses k) vs i v w at refl ∙ h.each k ∙ ap (once_below k) (sym c);
+          few = h.few;
+        },
+      )
     where
       longer : (xs : List ℕ) (x : ℕ) → length (xs ++ x ∷ []) ≡ length xs + 1
       longer [] x = refl
@@ -143,6 +148,7 @@ module _ {W P : Type 0} where
     where
       no_pages : (seen : Pages P) → ◌≡◌ {A = Option (Pages P)} None (Some seen) → ⊥
       no_pages seen e = cc
+
       placed_as : (history : List Event) (v w : View W P) → IsQuiet v w → IsPlaced history v → IsPlaced history w
       placed_as history v w q p = record {
         place = subst (Each (λ e. get_elem? history e.ticket ≡ some e.event)) (sym q.entries) p.place;
@@ -174,7 +180,7 @@ module _ {W P : Type 0} where
         let next_is : core.next ≡ n = h.next ∙ is in
         let set_is : (claimed v.seat core).branches ≡ set core.branches core.next (Held v.seat) = rw within refl in
         let here_held : branch_at (claimed v.seat core).branches n ≡ Held v.seat =
-            ap (λ bs. branch_at bs n) set_is ∙ ap (λ k. branch_at (set core.branches k (Held v.seat)) n) next_is ∙ get_or-set_same core.branches n (Held v.seat) Free (omega (arith, count, lt)) in
+        ap (λ bs. branch_at bs n) set_is ∙ ap (λ k. branch_at (set core.branches k (Held v.seat)) n) next_is ∙ get_or-set_same core.branches n (Held v.seat) Free (omega (arith, count, lt)) in
         let stay : (k s : ℕ) → branch_at core.branches k ≡ Held s → branch_at (claimed v.seat core).branches k ≡ Held s = λ k s e. stands {m = m} v.seat k core (λ f. held_free s (sym e ∙ f)) r.core ∙ e in
         let at_end : get_elem? (owners ++ v.seat ∷ []) n ≡ some v.seat = at_last owners v.seat n (h.owned ∙ is) in
         let mine : IsOwner (owners ++ v.seat ∷ []) (claimed v.seat core) w = record {
@@ -193,8 +199,10 @@ module _ {W P : Type 0} where
       where
         held_free : (s : ℕ) → ◌≡◌ {A = Branch} (Held s) Free → ⊥
         held_free s e = cc
+
         some_is : (n k : ℕ) → ◌≡◌ {A = Option ℕ} (Some n) (Some k) → n ≡ k
         some_is n k e = cc
+
         length_snoc : (xs : List ℕ) (x : ℕ) → length (xs ++ x ∷ []) ≡ length xs + 1
         length_snoc [] x = refl
         length_snoc (y ∷ xs) x = omega (arith, length_snoc xs x)
@@ -239,16 +247,22 @@ module _ {W P : Type 0} where
           }) h.seats;
           branches = b.1;
           tickets = tickets_kept n ((n + 1) % 2 ^ 64) words vs i v w at refl idle h.tickets;
-          book = (h.book.0, h.book.1, h.book.2, book_kept m terms (n ∷ words) ((n + 1) % 2 ^ 64 ∷ words) homes vs i v w h.book.0 h.book.1 h.book.1 h.book.2 h.book.2 refl at
-            (record { gathered = refl; entries = refl; seen = refl; unseen = unseen })
-            (k.owned ∙ sym b.0)
-            (each_set (IsOwner h.book.1 h.book.2) vs i w (record { holds = o.holds; filed = o.filed; stands = o.stands }) k.owner)
-            k.accepted refl (k.next ∙ sym b.0) k);
+          book = (
+            h.book.0,
+            h.book.1,
+            h.book.2,
+            book_kept m terms (n ∷ words) ((n + 1) % 2 ^ 64 ∷ words) homes vs i v w h.book.0 h.book.1 h.book.1 h.book.2 h.book.2 refl at
+                (record { gathered = refl; entries = refl; seen = refl; unseen = unseen })
+                (k.owned ∙ sym b.0)
+                (each_set (IsOwner h.book.1 h.book.2) vs i w (record { holds = o.holds; filed = o.filed; stands = o.stands }) k.owner)
+                k.accepted refl (k.next ∙ sym b.0) k,
+          );
         }
       where
         alone : (Q : ℕ → Type 0) (x : ℕ) → Q x → Each Q (x ∷ [])
         alone Q x q zero y at = subst Q (some-injective x y at) q
         alone Q x q (suc j) y at = absurd (some-ne-none y (sym at))
+
         some_there : (x : ℕ) (xs : List ℕ) → 0 < times x xs → 1 ≤ length xs
         some_there x [] h = absurd (omega (arith, h))
         some_there x (y ∷ ys) h = omega arith

@@ -46,10 +46,10 @@ module _ {A : Type 0} where
   total_zero f (x ∷ xs) h = omega (arith, h 0 x refl, total_zero f xs (λ i y at. h (suc i) y at))
 
   pub each_set : (P : A → Type 0) (xs : List A) (i : ℕ) (w : A) → P w → Each P xs → Each P (set xs i w)
-  each_set P xs i w new old j x at = elim (at_set xs i j w x at) [ | inl h ↦ subst P h.1 new | inr h ↦ old j x h.1 ]
+  each_set P xs i w new old j x at = elim (at_set xs i j w x at) [ inl h ↦ subst P h.1 new | inr h ↦ old j x h.1 ]
 
   pub each_snoc : (P : A → Type 0) (xs : List A) (w : A) → P w → Each P xs → Each P (xs ++ w ∷ [])
-  each_snoc P xs w new old j x at = elim (at_snoc xs w x j at) [ | inl h ↦ old j x h | inr h ↦ subst P h new ]
+  each_snoc P xs w new old j x at = elim (at_snoc xs w x j at) [ inl h ↦ old j x h | inr h ↦ subst P h new ]
 
   pub each_append : (P : A → Type 0) (xs ys : List A) → Each P xs → Each P ys → Each P (xs ++ ys)
   each_append P [] ys a b i y at = b i y at

@@ -59,31 +59,42 @@ module _ {W P : Type 0} where
           each = λ x. first_numbers x terms.seats some_seat;
           sum = omega (arith, some_seat);
           fits = each_one (λ u. IsLive terms u ⊎ IsSpent u) v (inl (record {
-            of_board = refl; spares = omega arith; seat = omega (arith, same_self 0); over = each_none (λ w. 0 < times w v.gathered); over_few = omega arith; entries = each_none (λ (e : Slip). 0 < times (seat_of e.event) v.gathered);
+            of_board = refl;
+            spares = omega arith;
+            seat = omega (arith, same_self 0);
+            over = each_none (λ w. 0 < times w v.gathered);
+            over_few = omega arith;
+            entries = each_none (λ (e : Slip). 0 < times (seat_of e.event) v.gathered);
           }));
           few = few_seats;
         };
         branches = record { word = refl; most = omega arith; done = λ some_over. absurd (omega (arith, some_over)); each = λ k. none_below k; few = few_branches };
         tickets = record { waits = refl; each = λ x. none_between x; held = each_one (λ (u : View W P). count_in u.ticket ≤ count_in u.held) v (omega arith) };
-        book = (pages, [], opened m terms.job.branches, record {
-          served = sym (ap length empty);
-          weighed = λ f. ap (total f) empty;
-          tickets = λ x. none_below x;
-          placed = each_one (IsPlaced pages.history.items) v (record { place = each_none (λ (e : Slip). get_elem? pages.history.items e.ticket ≡ some e.event); rising = λ w. tt; own = λ w some_there. ap (by_seat w) empty });
-          quiet = λ none_seen. refl;
-          at_work = each_one (IsAtWork (some (Some pages) ∷ []) 0 pages) v (λ seen e. absurd (no_pages seen e));
-          owned = refl;
-          owner = each_one (IsOwner [] (opened m terms.job.branches)) v (record { holds = λ k e. absurd (no_number k e); filed = each_none (λ (e : Slip). get_elem? [] (branch_of e.event) ≡ some (seat_of e.event)); stands = λ k e. absurd (no_number k e) });
-          filings = ap has_claim empty;
-          accepted = ap (λ es. replayed m es (opened m terms.job.branches)) empty;
-          merged = merged;
-          next = refl;
-          room = room;
-        });
+        book = (
+          pages,
+          [],
+          opened m terms.job.branches,
+          record {
+            served = sym (ap length empty);
+            weighed = λ f. ap (total f) empty;
+            tickets = λ x. none_below x;
+            placed = each_one (IsPlaced pages.history.items) v (record { place = each_none (λ (e : Slip). get_elem? pages.history.items e.ticket ≡ some e.event); rising = λ w. tt; own = λ w some_there. ap (by_seat w) empty });
+            quiet = λ none_seen. refl;
+            at_work = each_one (IsAtWork (some (Some pages) ∷ []) 0 pages) v (λ seen e. absurd (no_pages seen e));
+            owned = refl;
+            owner = each_one (IsOwner [] (opened m terms.job.branches)) v (record { holds = λ k e. absurd (no_number k e); filed = each_none (λ (e : Slip). get_elem? [] (branch_of e.event) ≡ some (seat_of e.event)); stands = λ k e. absurd (no_number k e) });
+            filings = ap has_claim empty;
+            accepted = ap (λ es. replayed m es (opened m terms.job.branches)) empty;
+            merged = merged;
+            next = refl;
+            room = room;
+          },
+        );
       }
     where
       no_pages : (seen : Pages P) → ◌≡◌ {A = Option (Pages P)} None (Some seen) → ⊥
       no_pages seen e = cc
+
       no_number : (n : ℕ) → ◌≡◌ {A = Option ℕ} None (Some n) → ⊥
       no_number n e = cc
 
@@ -102,8 +113,8 @@ module _ {W P : Type 0} where
   -- what holds of a pass that holds no branch and of a spent one holds of every pass
   each_other : (Q : View W P → Type 0) (terms : Terms W) (vs : List (View W P)) (i : ℕ) (v : View W P) → Seats terms vs → get_elem? vs i ≡ some v → HasAll terms.seats v → Q v → ((u : View W P) → IsSpent u → Q u) → Each Q vs
   each_other Q terms vs i v h at all mine spent j u at_u = decide j i
-    (λ e. subst Q (sym (some-injective u v (sym at_u ∙ ap (get_elem? vs) e ∙ at))) mine)
-    (λ ne. spent u (others_spent terms vs i v h at all j u at_u ne))
+      (λ e. subst Q (sym (some-injective u v (sym at_u ∙ ap (get_elem? vs) e ∙ at))) mine)
+      (λ ne. spent u (others_spent terms vs i v h at all j u at_u ne))
 
   -- without claims in hand, a claim is an entry
   claims_filed : (terms : Terms W) (vs : List (View W P)) → Each (λ v. v.held ≡ None) vs → claims vs ≡ total (λ v. length v.entries) vs
@@ -130,18 +141,21 @@ module _ {W P : Type 0} where
         let none_held : Each (λ (u : View W P). u.held ≡ None) vs = each_other (λ (u : View W P). u.held ≡ None) terms vs i v h.seats at all free (λ u z. z.held) in
         let none_seen : Each (λ (u : View W P). u.seen ≡ None) vs = each_other (λ (u : View W P). u.seen ≡ None) terms vs i v h.seats at all unseen (λ u z. z.seen) in
         let count : claims vs ≡ length history = claims_filed terms vs none_held ∙ entries_one vs ∙ sym (k.weighed (λ e. 1)) ∙ total_one history in
-        let l = h.seats.fits i v at in
-        (pages, k.quiet none_seen, record {
-          own = λ w. elim (zero_or_more (times w v.gathered)) [
-            | inl e ↦
-                let nobody : Each (λ (u : View W P). times w u.gathered ≡ 0) vs = each_other (λ (u : View W P). times w u.gathered ≡ 0) terms vs i v h.seats at all e (λ u z. ap (times w) z.gathered) in
-                nothing_by terms w history vs h.seats.fits nobody (k.weighed (λ e. same w (seat_of e))) ∙ sym (no_own w v.entries (none_of_seat terms w v l e))
-            | inr some_there ↦ (k.placed i v at).own w some_there
-          ];
-          once = λ n. k.weighed (λ e. same n (branch_of e)) ∙ sym (uses_filed n vs none_held) ∙ h.branches.each n ∙ ap (once_below n) count;
-          merged_is = k.merged ∙ replayed-gathers laws b (map Claim owners ++ history) h.book.2 k.accepted ∙ gathered-same m b (is_taken_in (map Claim owners ++ history)) (is_taken_in history) (λ n lt. claims_take_none owners history n);
-          all_drawn = λ some_over. sym count ∙ h.branches.done (omega (arith, some_over, total_at (λ (u : View W P). length u.over) vs i v at));
-        })
+        let l = h.seats.fits i v at in (
+          pages,
+          k.quiet none_seen,
+          record {
+            own = λ w. elim (zero_or_more (times w v.gathered)) [
+              | inl e ↦
+                  let nobody : Each (λ (u : View W P). times w u.gathered ≡ 0) vs = each_other (λ (u : View W P). times w u.gathered ≡ 0) terms vs i v h.seats at all e (λ u z. ap (times w) z.gathered) in
+                  nothing_by terms w history vs h.seats.fits nobody (k.weighed (λ e. same w (seat_of e))) ∙ sym (no_own w v.entries (none_of_seat terms w v l e))
+              | inr some_there ↦ (k.placed i v at).own w some_there
+            ];
+            once = λ n. k.weighed (λ e. same n (branch_of e)) ∙ sym (uses_filed n vs none_held) ∙ h.branches.each n ∙ ap (once_below n) count;
+            merged_is = k.merged ∙ replayed-gathers laws b (map Claim owners ++ history) h.book.2 k.accepted ∙ gathered-same m b (is_taken_in (map Claim owners ++ history)) (is_taken_in history) (λ n lt. claims_take_none owners history n);
+            all_drawn = λ some_over. sym count ∙ h.branches.done (omega (arith, some_over, total_at (λ (u : View W P). length u.over) vs i v at));
+          },
+        )
 
     -- the same of the table after it was closed
     pub closed_slot : (terms : Terms W) (i number spares : ℕ) (v : View W P) (slot : List (ℕ × Option (Pages P))) (words : List ℕ) (slots : List (Option (Pages P))) → Final (Seen (Holds m terms) i v) words slots → IsAtRest terms number spares (v, slot) → v.held ≡ None → HasAll terms.seats v

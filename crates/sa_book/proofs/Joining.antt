@@ -97,8 +97,8 @@ module _ {W P : Type 0} where
     over = each_append (λ x. 0 < times x (v.gathered ++ w.gathered)) v.over w.over (λ i x at. omega (arith, more_there x v.gathered w.gathered, a.over i x at)) (λ i x at. omega (arith, more_there x v.gathered w.gathered, b.over i x at));
     over_few = omega (arith, length_append v.over w.over, length_append v.gathered w.gathered, a.over_few, b.over_few);
     entries = each_append (λ e. 0 < times (seat_of e.event) (v.gathered ++ w.gathered)) v.entries w.entries
-    (λ i e at. omega (arith, more_there (seat_of e.event) v.gathered w.gathered, a.entries i e at))
-    (λ i e at. omega (arith, more_there (seat_of e.event) v.gathered w.gathered, b.entries i e at));
+        (λ i e at. omega (arith, more_there (seat_of e.event) v.gathered w.gathered, a.entries i e at))
+        (λ i e at. omega (arith, more_there (seat_of e.event) v.gathered w.gathered, b.entries i e at));
   }
 
   both_placed : (terms : Terms W) (history : List Event) (v w : View W P) → IsLive terms v → IsLive terms w → ((x : ℕ) → (times x v.gathered ≡ 0) ⊎ (times x w.gathered ≡ 0)) → IsPlaced history v → IsPlaced history w → IsPlaced history (both v w)
@@ -159,21 +159,26 @@ module _ {W P : Type 0} where
           each = λ x. join_total (λ (u : View W P). times_in x u.ticket) vs i j v w b n at at_set_w (let z : times_in x w.ticket ≡ 0 = ap (times_in x) idle_w in omega (arith, z)) ∙ h.tickets.each x;
           held = each_join (λ (u : View W P). count_in u.ticket ≤ count_in u.held) vs i j b n (h.tickets.held i v at) (omega arith) h.tickets.held;
         };
-        book = (h.book.0, h.book.1, h.book.2, record {
-          served = k.served;
-          weighed = λ f. k.weighed f ∙ sym (join_total (λ (u : View W P). total (λ e. f e.event) u.entries) vs i j v w b n at at_set_w (omega (arith, total_append (λ (e : Slip). f e.event) v.entries w.entries)));
-          tickets = λ x. join_total (λ (u : View W P). total (λ e. same x e.ticket) u.entries) vs i j v w b n at at_set_w (omega (arith, total_append (λ (e : Slip). same x e.ticket) v.entries w.entries)) ∙ k.tickets x;
-          placed = each_join (IsPlaced history) vs i j b n (both_placed terms history v w lv lw (λ x. one_gathered terms vs i j v w x h.seats ne at at_w) (k.placed i v at) (k.placed j w at_w)) fine_n k.placed;
-          quiet = λ none_seen. k.quiet (each_unset (λ (u : View W P). u.seen ≡ None) vs i v b at (λ e. e) (each_unset (λ (u : View W P). u.seen ≡ None) (set vs i b) j w n at_set_w (λ e. unseen_w) none_seen));
-          at_work = each_join (IsAtWork s.homes (slice_index s.words 2) h.book.0) vs i j b n (k.at_work i v at) (λ seen e. absurd (none_some seen e)) k.at_work;
-          owned = k.owned ∙ sym same_claims;
-          owner = each_join (IsOwner h.book.1 h.book.2) vs i j b n own_b own_n k.owner;
-          filings = k.filings;
-          accepted = k.accepted;
-          merged = k.merged;
-          next = k.next ∙ sym same_claims;
-          room = k.room;
-        });
+        book = (
+          h.book.0,
+          h.book.1,
+          h.book.2,
+          record {
+            served = k.served;
+            weighed = λ f. k.weighed f ∙ sym (join_total (λ (u : View W P). total (λ e. f e.event) u.entries) vs i j v w b n at at_set_w (omega (arith, total_append (λ (e : Slip). f e.event) v.entries w.entries)));
+            tickets = λ x. join_total (λ (u : View W P). total (λ e. same x e.ticket) u.entries) vs i j v w b n at at_set_w (omega (arith, total_append (λ (e : Slip). same x e.ticket) v.entries w.entries)) ∙ k.tickets x;
+            placed = each_join (IsPlaced history) vs i j b n (both_placed terms history v w lv lw (λ x. one_gathered terms vs i j v w x h.seats ne at at_w) (k.placed i v at) (k.placed j w at_w)) fine_n k.placed;
+            quiet = λ none_seen. k.quiet (each_unset (λ (u : View W P). u.seen ≡ None) vs i v b at (λ e. e) (each_unset (λ (u : View W P). u.seen ≡ None) (set vs i b) j w n at_set_w (λ e. unseen_w) none_seen));
+            at_work = each_join (IsAtWork s.homes (slice_index s.words 2) h.book.0) vs i j b n (k.at_work i v at) (λ seen e. absurd (none_some seen e)) k.at_work;
+            owned = k.owned ∙ sym same_claims;
+            owner = each_join (IsOwner h.book.1 h.book.2) vs i j b n own_b own_n k.owner;
+            filings = k.filings;
+            accepted = k.accepted;
+            merged = k.merged;
+            next = k.next ∙ sym same_claims;
+            room = k.room;
+          },
+        );
       }
 
   pub joins_allowed : (m : Parts P) (terms : Terms W) (number spares number_b spares_b id other : ℕ) (me others : Me (Option (Pages P)) (View W P)) → IsAtRest terms number spares me → IsAtRest terms number_b spares_b others → others.0.held ≡ None

@@ -148,11 +148,11 @@ module _ {W P : Type 0} where
   placed_mine : (e : Event) (history history2 : List Event) (v : View W P) (t : ℕ) → history2 ≡ history ++ e ∷ [] → t ≡ length history → IsPlaced history v → IsPlaced history2 (wrote t e v)
   placed_mine e history history2 v t is t_is p = record {
     place = each_snoc (λ s. get_elem? history2 s.ticket ≡ some s.event) v.entries (slip t e)
-    (ap (λ h. get_elem? h t) is ∙ at_last history e t (sym t_is))
-    (λ x s a. ap (λ h. get_elem? h s.ticket) is ∙ at_longer history (e ∷ []) s.ticket s.event (p.place x s a));
+        (ap (λ h. get_elem? h t) is ∙ at_last history e t (sym t_is))
+        (λ x s a. ap (λ h. get_elem? h s.ticket) is ∙ at_longer history (e ∷ []) s.ticket s.event (p.place x s a));
     rising = λ x. elim (cases_Bool (seat_of e == x)) [
       | inl b ↦ subst IsRising (sym (tickets_append x v.entries (slip t e ∷ []) ∙ ap (λ l. tickets_by x v.entries ++ l) (one x b)))
-        (rising_snoc (tickets_by x v.entries) t (tickets_below x t v.entries (λ j s a. omega (arith, t_is, at_within history s.ticket s.event (p.place j s a)))) (p.rising x))
+          (rising_snoc (tickets_by x v.entries) t (tickets_below x t v.entries (λ j s a. omega (arith, t_is, at_within history s.ticket s.event (p.place j s a)))) (p.rising x))
       | inr b ↦ subst IsRising (sym (tickets_append x v.entries (slip t e ∷ []) ∙ ap (λ l. tickets_by x v.entries ++ l) (no x b) ∙ append_nil (tickets_by x v.entries))) (p.rising x)
     ];
     own = λ x some_there. ap (by_seat x) is ∙ by_seat_append x history (e ∷ []) ∙ ap (λ l. l ++ by_seat x (e ∷ [])) (p.own x some_there) ∙ sym (own_append x v.entries (slip t e ∷ []));
@@ -160,6 +160,7 @@ module _ {W P : Type 0} where
     where
       one : (x : ℕ) → (seat_of e == x) ≡ true → tickets_by x (slip t e ∷ []) ≡ t ∷ []
       one x b = rw b refl
+
       no : (x : ℕ) → (seat_of e == x) ≡ false → tickets_by x (slip t e ∷ []) ≡ []
       no x b = rw b refl
 
@@ -192,7 +193,11 @@ module _ {W P : Type 0} where
       record {
         words = h.words;
         seats = seats_kept terms vs i v w at refl refl (record {
-          of_board = l.of_board; spares = l.spares; seat = l.seat; over = l.over; over_few = l.over_few;
+          of_board = l.of_board;
+          spares = l.spares;
+          seat = l.seat;
+          over = l.over;
+          over_few = l.over_few;
           entries = each_snoc (λ (s : Slip). 0 < times (seat_of s.event) v.gathered) v.entries (slip c e) (subst (λ n. 0 < times n v.gathered) (sym filing.seat_is) l.seat) l.entries;
         }) h.seats;
         branches = record {
@@ -213,51 +218,57 @@ module _ {W P : Type 0} where
               one_ticket_less x c b (total (λ (u : View W P). times_in x u.ticket) (set vs i w)) (omega (arith, s, had, h.tickets.each x)) low ∙ ap (λ n. once_between x n b) (sym more);
           held = each_set (λ (u : View W P). count_in u.ticket ≤ count_in u.held) vs i w (omega arith) h.tickets.held;
         };
-        book = (longer, owners, core2, record {
-          served = more ∙ ap (λ n. n + 1) book.served ∙ sym (ap length grown ∙ length_append history (e ∷ []));
-          weighed = λ g.
-              let s = total_set (λ (u : View W P). total (λ (x : Slip). g x.event) u.entries) vs i v w at in
-              let t = total_snoc (λ (x : Slip). g x.event) v.entries (slip c e) in
-              let n : total g longer.history.items ≡ total g history + g e = ap (total g) grown ∙ total_snoc g history e in
-              omega (arith, s, t, n, book.weighed g);
-          tickets = λ x.
-              let s = total_set (λ (u : View W P). total (λ (y : Slip). same x y.ticket) u.entries) vs i v w at in
-              let t = total_snoc (λ (y : Slip). same x y.ticket) v.entries (slip c e) in
-              let n : total (λ (u : View W P). total (λ (y : Slip). same x y.ticket) u.entries) (set vs i w) ≡ once_below x (c + 1) = omega (arith, s, t, book.tickets x, once_more x c) in
-              n ∙ ap (once_below x) (sym more);
-          placed = λ j u at_u. elim (at_set vs i j w u at_u) [
-            | inl is ↦ subst (IsPlaced longer.history.items) is.1 (placed_mine e history longer.history.items v c grown book.served (book.placed i v at))
-            | inr is ↦ placed_others terms e history longer.history.items vs i j v u grown h.seats l filing.seat_is is.0 at is.1 (book.placed j u is.1)
-          ];
-          quiet = λ none_seen. refl;
-          at_work = λ j u at_u. elim (at_set vs i j w u at_u) [
-            | inl is ↦ subst (IsAtWork (some (Some longer) ∷ []) c2 longer) is.1 (λ seen s. absurd (no_pages seen s))
-            | inr is ↦ (λ seen s. absurd (alone m terms a b c homes vs i j v u seen h at mine is.0 is.1 s))
-          ];
-          owned = book.owned ∙ sym same_claims;
-          owner = λ j u at_u. elim (at_set vs i j w u at_u) [
-            | inl is ↦ subst (IsOwner owners core2) is.1 (record {
+        book = (
+          longer,
+          owners,
+          core2,
+          record {
+            served = more ∙ ap (λ n. n + 1) book.served ∙ sym (ap length grown ∙ length_append history (e ∷ []));
+            weighed = λ g.
+                let s = total_set (λ (u : View W P). total (λ (x : Slip). g x.event) u.entries) vs i v w at in
+                let t = total_snoc (λ (x : Slip). g x.event) v.entries (slip c e) in
+                let n : total g longer.history.items ≡ total g history + g e = ap (total g) grown ∙ total_snoc g history e in
+                omega (arith, s, t, n, book.weighed g);
+            tickets = λ x.
+                let s = total_set (λ (u : View W P). total (λ (y : Slip). same x y.ticket) u.entries) vs i v w at in
+                let t = total_snoc (λ (y : Slip). same x y.ticket) v.entries (slip c e) in
+                let n : total (λ (u : View W P). total (λ (y : Slip). same x y.ticket) u.entries) (set vs i w) ≡ once_below x (c + 1) = omega (arith, s, t, book.tickets x, once_more x c) in
+                n ∙ ap (once_below x) (sym more);
+            placed = λ j u at_u. elim (at_set vs i j w u at_u) [
+              | inl is ↦ subst (IsPlaced longer.history.items) is.1 (placed_mine e history longer.history.items v c grown book.served (book.placed i v at))
+              | inr is ↦ placed_others terms e history longer.history.items vs i j v u grown h.seats l filing.seat_is is.0 at is.1 (book.placed j u is.1)
+            ];
+            quiet = λ none_seen. refl;
+            at_work = λ j u at_u. elim (at_set vs i j w u at_u) [
+              | inl is ↦ subst (IsAtWork (some (Some longer) ∷ []) c2 longer) is.1 (λ seen s. absurd (no_pages seen s))
+              | inr is ↦ (λ seen s. absurd (alone m terms a b c homes vs i j v u seen h at mine is.0 is.1 s))
+            ];
+            owned = book.owned ∙ sym same_claims;
+            owner = λ j u at_u. elim (at_set vs i j w u at_u) [
+              | inl is ↦ subst (IsOwner owners core2) is.1 (record {
                 holds = λ n s. absurd (no_number n s);
                 filed = each_snoc (λ (s : Slip). get_elem? owners (branch_of s.event) ≡ some (seat_of s.event)) v.entries (slip c e) (ap (get_elem? owners) filing.branch_is ∙ o.holds k held ∙ ap some (sym filing.seat_is)) o.filed;
                 stands = λ n s. absurd (no_number n s);
               })
-            | inr is ↦
-                let p = book.owner j u is.1 in
-                record { holds = p.holds; filed = p.filed; stands = λ n s. filing.others core n (apart_held terms (a ∷ b ∷ c ∷ []) vs i j v u k n h.branches is.0 at is.1 held s) ∙ p.stands n s }
-          ];
-          filings = subst (λ es. has_claim es ≡ false) (sym grown) (has_claim-append history (e ∷ []) book.filings (rw filing.no_claim refl));
-          accepted = ap (λ es. replayed m (map Claim owners ++ es) (opened m terms.job.branches)) grown
-            ∙ ap (λ es. replayed m es (opened m terms.job.branches)) (append_group (map Claim owners) history (e ∷ []))
-            ∙ replayed-append m (map Claim owners ++ history) (e ∷ []) (opened m terms.job.branches) core book.accepted
-            ∙ replayed-cons m e [] core met;
-          merged = merged ∙ ap f book.merged ∙ sym (filing.merged_is core);
-          next = filing.next_is core ∙ book.next ∙ sym same_claims;
-          room = omega (arith, kept, book.room);
-        });
+              | inr is ↦
+                  let p = book.owner j u is.1 in
+                  record { holds = p.holds; filed = p.filed; stands = λ n s. filing.others core n (apart_held terms (a ∷ b ∷ c ∷ []) vs i j v u k n h.branches is.0 at is.1 held s) ∙ p.stands n s }
+            ];
+            filings = subst (λ es. has_claim es ≡ false) (sym grown) (has_claim-append history (e ∷ []) book.filings (rw filing.no_claim refl));
+            accepted = ap (λ es. replayed m (map Claim owners ++ es) (opened m terms.job.branches)) grown
+                ∙ ap (λ es. replayed m es (opened m terms.job.branches)) (append_group (map Claim owners) history (e ∷ []))
+                ∙ replayed-append m (map Claim owners ++ history) (e ∷ []) (opened m terms.job.branches) core book.accepted
+                ∙ replayed-cons m e [] core met;
+            merged = merged ∙ ap f book.merged ∙ sym (filing.merged_is core);
+            next = filing.next_is core ∙ book.next ∙ sym same_claims;
+            room = omega (arith, kept, book.room);
+          },
+        );
       }
     where
       no_pages : (seen : Pages P) → ◌≡◌ {A = Option (Pages P)} None (Some seen) → ⊥
       no_pages seen e = cc
+
       no_number : (n : ℕ) → ◌≡◌ {A = Option ℕ} None (Some n) → ⊥
       no_number n e = cc
 
@@ -275,13 +286,16 @@ module _ {W P : Type 0} where
       let busy = h.book.3.at_work i v at pages work.seen in
       let e = what v.seat branch in
       let view_is : serving what v ≡ wrote z e v =
-          ap (λ n. wrote n (what v.seat (number_in v.held)) v) (ap number_in busy.1) ∙ ap (λ n. wrote z (what v.seat n) v) (ap number_in work.held) in
+      ap (λ n. wrote n (what v.seat (number_in v.held)) v) (ap number_in busy.1) ∙ ap (λ n. wrote z (what v.seat n) v) (ap number_in work.held) in
       let kept_rule = serve_keeps m terms e f x y z ((z + 1) % 2 ^ 64) homes vs i branch v longer at work.of_board work.held busy.1 refl filing h
-          (grown ∙ ap (λ (p : Pages P). p.history.items ++ e ∷ []) busy.0) (merged ∙ ap (λ (p : Pages P). f p.merged) busy.0) (kept ∙ ap (λ (p : Pages P). vec_capacity p.history) busy.0) in
-      (serving what v, gives, tt,
+      (grown ∙ ap (λ (p : Pages P). p.history.items ++ e ∷ []) busy.0) (merged ∙ ap (λ (p : Pages P). f p.merged) busy.0) (kept ∙ ap (λ (p : Pages P). vec_capacity p.history) busy.0) in (
+        serving what v,
+        gives,
+        tt,
         subst (λ hs. Holds m terms (record { words = x ∷ y ∷ (z + 1) % 2 ^ 64 ∷ []; homes = set hs 0 (some (Some longer)); views = set vs i (serving what v) })) (sym busy.2)
-        (subst (λ u. Holds m terms (record { words = x ∷ y ∷ (z + 1) % 2 ^ 64 ∷ []; homes = some (Some longer) ∷ []; views = set vs i u })) (sym view_is) kept_rule),
-        refl)
+            (subst (λ u. Holds m terms (record { words = x ∷ y ∷ (z + 1) % 2 ^ 64 ∷ []; homes = some (Some longer) ∷ []; views = set vs i u })) (sym view_is) kept_rule),
+        refl,
+      )
   serve_at m terms what f seat branch ticket pages longer v (x ∷ y ∷ z ∷ u ∷ ws) homes vs i work filing grown merged kept h at = absurd (omega (arith, h.words))
 
   serves : (m : Parts P) (terms : Terms W) (what : ℕ → ℕ → Event) (f : P → P) (slots seat branch ticket id : ℕ) (pages longer : Pages P) (me : Me (Option (Pages P)) (View W P))

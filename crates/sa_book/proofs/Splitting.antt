@@ -41,8 +41,8 @@ module _ {W P : Type 0} where
       let spare = least_is_spare terms.seats v.spares some_spare le in
       decide i j
       (λ e. let is : u ≡ v = some-injective u v (sym at_u ∙ ap (get_elem? vs) (sym e) ∙ at) in
-          let most = total_at (numbers terms.seats x) vs i v at in
-          ap (λ (z : View W P). times x z.gathered) is ∙ omega (arith, most, h.each x, below_once x terms.seats, spare))
+      let most = total_at (numbers terms.seats x) vs i v at in
+      ap (λ (z : View W P). times x z.gathered) is ∙ omega (arith, most, h.each x, below_once x terms.seats, spare))
       (λ ne. let other = one_has terms vs i j v u x h ne at at_u (omega (arith, spare)) in omega (arith, other))
 
   split_keeps : (m : Parts P) (terms : Terms W) (words : List ℕ) (s : Table (Option (Pages P)) (View W P)) (i : ℕ) (v : View W P) → v.terms ≡ Some terms → v.seen ≡ None → v.ticket ≡ None → 0 < v.spares → Holds m terms s → get_elem? s.views i ≡ some v
@@ -61,7 +61,7 @@ module _ {W P : Type 0} where
       let live_l : IsLive terms l = record { of_board = of_board; spares = omega (arith, lv.spares); seat = lv.seat; over = lv.over; over_few = lv.over_few; entries = lv.entries } in
       let live_r : IsLive terms r = rw is (record { of_board = of_board; spares = omega arith; seat = omega (arith, same_self new_seat); over = λ j x a. absurd (some-ne-none x (sym a)); over_few = omega arith; entries = λ j x a. absurd (some-ne-none x (sym a)) }) in
       let fine_l : IsPlaced history l = record { place = p.place; rising = p.rising; own = p.own } in
-      let fine_r : IsPlaced history r = rw is (record { place = λ j x a. absurd (some-ne-none x (sym a)); rising = λ w. tt; own = λ w some_there. elim (cases_eq w new_seat) [ | inl e ↦ ap (λ z. by_seat z history) e ∙ unheard | inr ne ↦ absurd (not_there w new_seat ne some_there) ] }) in
+      let fine_r : IsPlaced history r = rw is (record { place = λ j x a. absurd (some-ne-none x (sym a)); rising = λ w. tt; own = λ w some_there. elim (cases_eq w new_seat) [ inl e ↦ ap (λ z. by_seat z history) e ∙ unheard | inr ne ↦ absurd (not_there w new_seat ne some_there) ] }) in
       let own_l : IsOwner h.book.1 h.book.2 l = record { holds = o.holds; filed = o.filed; stands = o.stands } in
       let own_r : IsOwner h.book.1 h.book.2 r = rw is (record { holds = λ n e. absurd (none_some n e); filed = λ j x a. absurd (some-ne-none x (sym a)); stands = λ n e. absurd (none_some n e) }) in
       let same_claims : claims (set vs i l ++ r ∷ []) ≡ claims vs = split_total (λ (u : View W P). count_in u.held + length u.entries) vs i v l r at (rw is (omega arith)) in
@@ -86,27 +86,34 @@ module _ {W P : Type 0} where
           each = λ x. split_total (λ (u : View W P). times_in x u.ticket) vs i v l r at (rw is (omega arith)) ∙ h.tickets.each x;
           held = each_split (λ (u : View W P). count_in u.ticket ≤ count_in u.held) vs i l r (h.tickets.held i v at) (rw is (omega arith)) h.tickets.held;
         };
-        book = (h.book.0, h.book.1, h.book.2, record {
-          served = k.served;
-          weighed = λ f. k.weighed f ∙ sym (split_total (λ (u : View W P). total (λ e. f e.event) u.entries) vs i v l r at (rw is (omega arith)));
-          tickets = λ x. split_total (λ (u : View W P). total (λ e. same x e.ticket) u.entries) vs i v l r at (rw is (omega arith)) ∙ k.tickets x;
-          placed = each_split (IsPlaced history) vs i l r fine_l fine_r k.placed;
-          quiet = λ none_seen. k.quiet (each_unset (λ (u : View W P). u.seen ≡ None) vs i v l at (λ e. e) (λ j u a. none_seen j u (at_longer (set vs i l) (r ∷ []) j u a)));
-          at_work = each_split (IsAtWork s.homes (slice_index s.words 2) h.book.0) vs i l r (k.at_work i v at) (rw is (λ seen e. absurd (no_pages seen e))) k.at_work;
-          owned = k.owned ∙ sym same_claims;
-          owner = each_split (IsOwner h.book.1 h.book.2) vs i l r own_l own_r k.owner;
-          filings = k.filings;
-          accepted = k.accepted;
-          merged = k.merged;
-          next = k.next ∙ sym same_claims;
-          room = k.room;
-        });
+        book = (
+          h.book.0,
+          h.book.1,
+          h.book.2,
+          record {
+            served = k.served;
+            weighed = λ f. k.weighed f ∙ sym (split_total (λ (u : View W P). total (λ e. f e.event) u.entries) vs i v l r at (rw is (omega arith)));
+            tickets = λ x. split_total (λ (u : View W P). total (λ e. same x e.ticket) u.entries) vs i v l r at (rw is (omega arith)) ∙ k.tickets x;
+            placed = each_split (IsPlaced history) vs i l r fine_l fine_r k.placed;
+            quiet = λ none_seen. k.quiet (each_unset (λ (u : View W P). u.seen ≡ None) vs i v l at (λ e. e) (λ j u a. none_seen j u (at_longer (set vs i l) (r ∷ []) j u a)));
+            at_work = each_split (IsAtWork s.homes (slice_index s.words 2) h.book.0) vs i l r (k.at_work i v at) (rw is (λ seen e. absurd (no_pages seen e))) k.at_work;
+            owned = k.owned ∙ sym same_claims;
+            owner = each_split (IsOwner h.book.1 h.book.2) vs i l r own_l own_r k.owner;
+            filings = k.filings;
+            accepted = k.accepted;
+            merged = k.merged;
+            next = k.next ∙ sym same_claims;
+            room = k.room;
+          },
+        );
       }
     where
       not_there : (w s : ℕ) → w ≢ s → 0 < times w (s ∷ []) → ⊥
       not_there w s ne some_there = grind (arith, nat_tests)
+
       none_some : (n : ℕ) → ◌≡◌ {A = Option ℕ} None (Some n) → ⊥
       none_some n e = cc
+
       no_pages : (seen : Pages P) → ◌≡◌ {A = Option (Pages P)} None (Some seen) → ⊥
       no_pages seen e = cc
 

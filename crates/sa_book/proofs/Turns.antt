@@ -15,6 +15,11 @@ module _ {W P : Type 0} where
       let v_is : drawn.0 ≡ drawing t me.0 = ap (λ (m : Me (Option (Pages P)) (View W P)). m.0) drew in
       let w_is : seen.0 ≡ seeing pages (drawing t me.0) = ap (λ (m : Me (Option (Pages P)) (View W P)). m.0) sees.1 ∙ ap (seeing pages) v_is in
       let work : IsWorking terms seat branch t pages (seeing pages (drawing t me.0)) = record { of_board = rest.of_board; seat_is = rest.number_is ∙ sym seat_is; held = held; ticket_is = refl; seen = refl } in
-      let known : drawn.0.terms ≡ Some terms = ap (λ (v : View W P). v.terms) v_is ∙ rest.of_board in
-      (pages, t, subst (IsWorking terms seat branch t pages) (sym w_is) work, ap (λ (m : Me (Option (Pages P)) (View W P)). m.1) sees.1,
-        subst (λ (o : Option (Terms W)). let p : Type 0 = elim o [ None ↦ Unit {0} | Some terms ↦ Fits terms.job.work pages.merged ] in p) known sees.2, sees.3)
+      let known : drawn.0.terms ≡ Some terms = ap (λ (v : View W P). v.terms) v_is ∙ rest.of_board in (
+        pages,
+        t,
+        subst (IsWorking terms seat branch t pages) (sym w_is) work,
+        ap (λ (m : Me (Option (Pages P)) (View W P)). m.1) sees.1,
+        subst (λ (o : Option (Terms W)). let p : Type 0 = elim o [ None ↦ Unit {0} | Some terms ↦ Fits terms.job.work pages.merged ] in p) known sees.2,
+        sees.3,
+      )

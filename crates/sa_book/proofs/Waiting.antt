@@ -53,14 +53,16 @@ module _ {W P : Type 0} where
       → (claims (set vs i w) ≡ claims vs) × Branches terms words2 (set vs i w)
   branches_kept terms words words2 vs i v w same_word at held entries over h =
       let c = total_kept (λ (u : View W P). count_in u.held + length u.entries) vs i v w at (rw (held, entries) refl) in
-      let o = total_kept (λ (u : View W P). length u.over) vs i v w at (rw over refl) in
-      (c, record {
-        word = omega (arith, same_word, h.word, c, o);
-        most = omega (arith, c, h.most);
-        done = λ some_over. c ∙ h.done (omega (arith, o, some_over));
-        each = λ b. total_kept (uses b) vs i v w at (rw (held, entries) refl) ∙ h.each b ∙ ap (once_below b) (sym c);
-        few = h.few;
-      })
+      let o = total_kept (λ (u : View W P). length u.over) vs i v w at (rw over refl) in (
+        c,
+        record {
+          word = omega (arith, same_word, h.word, c, o);
+          most = omega (arith, c, h.most);
+          done = λ some_over. c ∙ h.done (omega (arith, o, some_over));
+          each = λ b. total_kept (uses b) vs i v w at (rw (held, entries) refl) ∙ h.each b ∙ ap (once_below b) (sym c);
+          few = h.few;
+        },
+      )
 
   -- whoever has the served ticket is alone at work
   pub alone : (m : Parts P) (terms : Terms W) (a b c : ℕ) (homes : List (Home (Option (Pages P)))) (vs : List (View W P)) (i j : ℕ) (v u : View W P) (seen : Pages P) → Holds m terms (record { words = a ∷ b ∷ c ∷ []; homes = homes; views = vs })
@@ -103,11 +105,16 @@ module _ {W P : Type 0} where
               sum ∙ ap (once_between x c) (sym t_is);
           held = each_set (λ (u : View W P). count_in u.ticket ≤ count_in u.held) vs i w (omega (arith, holds_one)) h.tickets.held;
         };
-        book = (h.book.0, h.book.1, h.book.2, book_kept m terms (a ∷ t ∷ c ∷ []) (a ∷ t2 ∷ c ∷ []) homes vs i v w h.book.0 h.book.1 h.book.1 h.book.2 h.book.2 refl at
-          (record { gathered = refl; entries = refl; seen = refl; unseen = unseen })
-          (b.owned ∙ sym br.0)
-          (each_set (IsOwner h.book.1 h.book.2) vs i w (record { holds = o.holds; filed = o.filed; stands = o.stands }) b.owner)
-          b.accepted refl (b.next ∙ sym br.0) b);
+        book = (
+          h.book.0,
+          h.book.1,
+          h.book.2,
+          book_kept m terms (a ∷ t ∷ c ∷ []) (a ∷ t2 ∷ c ∷ []) homes vs i v w h.book.0 h.book.1 h.book.1 h.book.2 h.book.2 refl at
+              (record { gathered = refl; entries = refl; seen = refl; unseen = unseen })
+              (b.owned ∙ sym br.0)
+              (each_set (IsOwner h.book.1 h.book.2) vs i w (record { holds = o.holds; filed = o.filed; stands = o.stands }) b.owner)
+              b.accepted refl (b.next ∙ sym br.0) b,
+        );
       }
 
   draw_at : (m : Parts P) (terms : Terms W) (v : View W P) (words : List ℕ) (homes : List (Home (Option (Pages P)))) (vs : List (View W P)) (i k : ℕ) (c : List (ℕ × Option (Pages P)))
@@ -144,42 +151,51 @@ module _ {W P : Type 0} where
       let br = branches_kept terms words words vs i v w refl at refl refl refl h.branches in
       let out : List (Home (Option (Pages P))) = none ∷ [] in
       let is_home = k.quiet (λ j u at_u. decide j i
-        (λ e. let is : u ≡ v = some-injective u v (sym at_u ∙ ap (get_elem? vs) e ∙ at) in ap (λ (z : View W P). z.seen) is ∙ unseen)
-        (λ ne. not_seen u.seen (λ seen e. alone m terms a b c homes vs i j v u seen h at mine ne at_u e))) in
-      (is_home, record {
-        words = h.words;
-        seats = seats_kept terms vs i v w at refl refl (record { of_board = l.of_board; spares = l.spares; seat = l.seat; over = l.over; over_few = l.over_few; entries = l.entries }) h.seats;
-        branches = br.1;
-        tickets = record {
-          waits = ap (λ n. c + n) (total_kept (λ (u : View W P). count_in u.ticket) vs i v w at refl) ∙ h.tickets.waits;
-          each = λ x. total_kept (λ (u : View W P). times_in x u.ticket) vs i v w at refl ∙ h.tickets.each x;
-          held = each_set (λ (u : View W P). count_in u.ticket ≤ count_in u.held) vs i w (h.tickets.held i v at) h.tickets.held;
-        };
-        book = (pages, h.book.1, h.book.2, record {
-          served = k.served;
-          weighed = λ f. k.weighed f ∙ sym (total_kept (λ (u : View W P). total (λ e. f e.event) u.entries) vs i v w at refl);
-          tickets = λ x. total_kept (λ (u : View W P). total (λ e. same x e.ticket) u.entries) vs i v w at refl ∙ k.tickets x;
-          placed = each_set (IsPlaced pages.history.items) vs i w (record { place = p.place; rising = p.rising; own = p.own }) k.placed;
-          quiet = λ none_seen. absurd (no_pages pages (sym (none_seen i w (here vs i v w at))));
-          at_work = λ j u at_u. elim (at_set vs i j w u at_u) [
-            | inl e ↦ subst (IsAtWork out c pages) e.1 (λ seen is. (sym (same_pages pages seen is), mine, refl))
-            | inr e ↦ (λ seen is. absurd (alone m terms a b c homes vs i j v u seen h at mine e.0 e.1 is))
-          ];
-          owned = k.owned ∙ sym br.0;
-          owner = each_set (IsOwner h.book.1 h.book.2) vs i w (record { holds = o.holds; filed = o.filed; stands = o.stands }) k.owner;
-          filings = k.filings;
-          accepted = k.accepted;
-          merged = k.merged;
-          next = k.next ∙ sym br.0;
-          room = k.room;
-        });
-      })
+      (λ e. let is : u ≡ v = some-injective u v (sym at_u ∙ ap (get_elem? vs) e ∙ at) in ap (λ (z : View W P). z.seen) is ∙ unseen)
+      (λ ne. not_seen u.seen (λ seen e. alone m terms a b c homes vs i j v u seen h at mine ne at_u e))) in (
+        is_home,
+        record {
+          words = h.words;
+          seats = seats_kept terms vs i v w at refl refl (record { of_board = l.of_board; spares = l.spares; seat = l.seat; over = l.over; over_few = l.over_few; entries = l.entries }) h.seats;
+          branches = br.1;
+          tickets = record {
+            waits = ap (λ n. c + n) (total_kept (λ (u : View W P). count_in u.ticket) vs i v w at refl) ∙ h.tickets.waits;
+            each = λ x. total_kept (λ (u : View W P). times_in x u.ticket) vs i v w at refl ∙ h.tickets.each x;
+            held = each_set (λ (u : View W P). count_in u.ticket ≤ count_in u.held) vs i w (h.tickets.held i v at) h.tickets.held;
+          };
+          book = (
+            pages,
+            h.book.1,
+            h.book.2,
+            record {
+              served = k.served;
+              weighed = λ f. k.weighed f ∙ sym (total_kept (λ (u : View W P). total (λ e. f e.event) u.entries) vs i v w at refl);
+              tickets = λ x. total_kept (λ (u : View W P). total (λ e. same x e.ticket) u.entries) vs i v w at refl ∙ k.tickets x;
+              placed = each_set (IsPlaced pages.history.items) vs i w (record { place = p.place; rising = p.rising; own = p.own }) k.placed;
+              quiet = λ none_seen. absurd (no_pages pages (sym (none_seen i w (here vs i v w at))));
+              at_work = λ j u at_u. elim (at_set vs i j w u at_u) [
+                | inl e ↦ subst (IsAtWork out c pages) e.1 (λ seen is. (sym (same_pages pages seen is), mine, refl))
+                | inr e ↦ (λ seen is. absurd (alone m terms a b c homes vs i j v u seen h at mine e.0 e.1 is))
+              ];
+              owned = k.owned ∙ sym br.0;
+              owner = each_set (IsOwner h.book.1 h.book.2) vs i w (record { holds = o.holds; filed = o.filed; stands = o.stands }) k.owner;
+              filings = k.filings;
+              accepted = k.accepted;
+              merged = k.merged;
+              next = k.next ∙ sym br.0;
+              room = k.room;
+            },
+          );
+        },
+      )
     where
       no_pages : (seen : Pages P) → ◌≡◌ {A = Option (Pages P)} None (Some seen) → ⊥
       no_pages seen e = cc
+
       not_seen : (o : Option (Pages P)) → ((seen : Pages P) → o ≡ Some seen → ⊥) → o ≡ None
       not_seen None no_one = refl
       not_seen (Some seen) no_one = absurd (no_one seen refl)
+
       same_pages : (x y : Pages P) → ◌≡◌ {A = Option (Pages P)} (Some x) (Some y) → x ≡ y
       same_pages x y e = cc
 
@@ -192,9 +208,10 @@ module _ {W P : Type 0} where
       let k = h.book.3 in
       let core = (reaches laws (map Claim h.book.1 ++ h.book.0.history.items) (opened m terms.job.branches) h.book.2 (opened-core laws terms.job.branches) k.accepted).core in
       let few = tickets_few m terms (record { words = a ∷ b ∷ c ∷ []; homes = homes; views = vs }) h in
-      let one : count_in v.ticket ≡ 1 = ap count_in mine in
-      (subst Fits (sym k.merged) (core-fits laws h.book.2 core),
-        omega (arith, total_at (λ (u : View W P). count_in u.ticket) vs i v at, one, h.tickets.waits, few, k.served, k.room, h.book.0.history.ok.0))
+      let one : count_in v.ticket ≡ 1 = ap count_in mine in (
+        subst Fits (sym k.merged) (core-fits laws h.book.2 core),
+        omega (arith, total_at (λ (u : View W P). count_in u.ticket) vs i v at, one, h.tickets.waits, few, k.served, k.room, h.book.0.history.ok.0),
+      )
 
   look_at : (Fits : W → P → Type 0) (m : Parts P) (terms : Terms W) (laws : MergeLaws (Fits terms.job.work) m) (v : View W P) (words : List ℕ) (homes : List (Home (Option (Pages P)))) (vs : List (View W P)) (i t : ℕ) (c : List (ℕ × Option (Pages P)))
       → v.terms ≡ Some terms → v.seen ≡ None → v.ticket ≡ Some t → c ≡ []
@@ -214,10 +231,13 @@ module _ {W P : Type 0} where
             let r = served m terms x y z homes vs i v at of_board unseen now h in
             let pages = h.book.0 in
             let f = room_for (Fits terms.job.work) m laws terms x y z homes vs i v at now h in
-            let fits : FitsBoard Fits v pages.merged = subst (λ (o : Option (Terms W)). let p : Type 0 = elim o [ None ↦ Unit {0} | Some terms ↦ Fits terms.job.work pages.merged ] in p) (sym of_board) f.0 in
-            (seeing pages v, takes 0 (Some pages), ap (λ hs. get_elem? hs 0) r.0,
+            let fits : FitsBoard Fits v pages.merged = subst (λ (o : Option (Terms W)). let p : Type 0 = elim o [ None ↦ Unit {0} | Some terms ↦ Fits terms.job.work pages.merged ] in p) (sym of_board) f.0 in (
+              seeing pages v,
+              takes 0 (Some pages),
+              ap (λ hs. get_elem? hs 0) r.0,
               subst (λ hs. Holds m terms (record { words = x ∷ y ∷ z ∷ []; homes = set hs 0 none; views = set vs i (seeing pages v) })) (sym r.0) r.1,
-              rw (asked, e) (pages, ap (λ l. (seeing pages v, (0, Some pages) ∷ l)) out, fits, f.1))
+              rw (asked, e) (pages, ap (λ l. (seeing pages v, (0, Some pages) ∷ l)) out, fits, f.1),
+            )
         | inr e ↦ (v, keeps, tt, subst (λ us. Holds m terms (record { words = x ∷ y ∷ z ∷ []; homes = homes; views = us })) (sym (set_again vs i v at)) h, rw (asked, e) refl)
       ]
   look_at Fits m terms laws v (x ∷ y ∷ z ∷ u ∷ ws) homes vs i t c of_board unseen mine out h at = absurd (omega (arith, h.words))

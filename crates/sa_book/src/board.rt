@@ -10,8 +10,8 @@ ghost use Rattle.sa_core.specs.declared.event.Event.TheVariants.{File, Gave};
 
 use crate::OutOfMemory;
 use crate::entry::{Entry, Filing};
-use crate::view::{Pages, Terms};
 use crate::rule::{Board, Book, Claims, Draws, Files, GivesUp, Looks, Meets, Parts, Pass, Token};
+use crate::view::{Pages, Terms};
 use atomic_table::Table;
 use sa_core::{Event, Job, Work};
 use std::alloc::Global;
@@ -21,11 +21,7 @@ use std::thread;
 impl<W: Work> Board<W> {
     /// A board of the job with so many seats, and the pass of seat 0, which has the other seats' numbers spare. It takes the
     /// room for one event of each branch here.
-    pub fn open(
-        alloc: Global,
-        job: Job<W>,
-        seats: u32,
-    ) -> Result<(Board<W>, Pass<W>), OutOfMemory>
+    pub fn open(alloc: Global, job: Job<W>, seats: u32) -> Result<(Board<W>, Pass<W>), OutOfMemory>
         requires seats { (1 ≤ seats) × (seats ≤ 64) }
         requires branches { (1 ≤ job.branches) × (job.branches ≤ 1025) }
         ensures terms { IfOk result (λ r. r.0.terms ≡ record { job = job; seats = seats }) }

@@ -72,7 +72,13 @@ pub(crate) type Token<W> = Seat<Option<Pages<<W as Work>::Part>>, View<W, <W as 
 /// The board of a job. Its table has the branch word, the ticket word and the served word, and one slot for the book.
 #[derive(Drop)]
 pub struct Board<W: Work> {
-    pub(crate) table: Table<Option<Pages<W::Part>>, View<W, W::Part>, Terms<W>, BoardRule<W>, Global>,
+    pub(crate) table: Table<
+        Option<Pages<W::Part>>,
+        View<W, W::Part>,
+        Terms<W>,
+        BoardRule<W>,
+        Global,
+    >,
     pub(crate) terms: Terms<W>,
     ghost words: { table.shared.table_id.words ≡ 3 },
     ghost slots: { table.shared.table_id.slots ≡ 1 },

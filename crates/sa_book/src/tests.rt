@@ -135,13 +135,14 @@ fn work<R: Threads + Wait + Sync, W: Work + Sync>(
     if further == 0 {
         return drain(rt, alloc, board, pass);
     }
+    let rest = further - 1;
     let other = board.split(&mut pass);
     let (mine, theirs) = join(
         rt,
         || -> Pass<W>
-            requires { IsSync R.row × IsSync W.row × IsPassOf board.now pass × ((seen_of pass).held ≡ None) × ((seen_of pass).over ≡ []) × ((seen_of pass).spares ≡ further - 1) }
-            ensures { IsPassOf board.entry.now result × ((seen_of result).held ≡ None) × (length (seen_of result).gathered ≡ length (seen_of pass).gathered + (further - 1)) × ((seen_of result).spares ≡ 0) }
-        { work(rt, alloc, board, pass, further - 1) },
+            requires { IsSync R.row × IsSync W.row × IsPassOf board.now pass × ((seen_of pass).held ≡ None) × ((seen_of pass).over ≡ []) × ((seen_of pass).spares ≡ rest) }
+            ensures { IsPassOf board.entry.now result × ((seen_of result).held ≡ None) × (length (seen_of result).gathered ≡ length (seen_of pass).gathered + rest) × ((seen_of result).spares ≡ 0) }
+        { work(rt, alloc, board, pass, rest) },
         || -> Pass<W>
             requires { IsSync R.row × IsSync W.row × IsPassOf board.now other × ((seen_of other).held ≡ None) × ((seen_of other).over ≡ []) }
             ensures { IsPassOf board.entry.now result × ((seen_of result).held ≡ None) × ((seen_of result).gathered ≡ (seen_of other).gathered) × ((seen_of result).spares ≡ (seen_of other).spares) }
@@ -190,7 +191,9 @@ fn row<R: Wait, W: Work>(rt: &R, alloc: Global, job: Job<W>) -> Result<Book<W>, 
         if let Some(two) = board.claim(&mut a) {
             let _ = file_one(rt, alloc, &board, &mut a, two);
         }
-        let _ = board.claim(&mut b);
+        if let Some(more) = board.claim(&mut b) {
+            let _ = file_one(rt, alloc, &board, &mut b, more);
+        }
         let whole = board.meet(a, b);
         return Ok(board.close(whole));
     }

@@ -19,13 +19,16 @@ fetch_add-requires g c =
     let put = c.put.ensures.put in
     let same = same_slot taken pages (sym c.take-pages.ensures.pages ∙ c.requires.turn.3) in
     let merged = c.in-Ok.ensures.value
-      ∙ ap (λ p. (g.W.Work.parts s.terms.job.work).merge_of p.merged c.args.part.now) same
-      ∙ ap (λ q. (g.W.Work.parts s.terms.job.work).merge_of pages.merged q) c.requires.part
-      ∙ ap (λ t. (g.W.Work.parts t.job.work).merge_of pages.merged ((g.W.Work.parts t.job.work).part_of branch)) (sym s.key) in
+    ∙ ap (λ p. (g.W.Work.parts s.terms.job.work).merge_of p.merged c.args.part.now) same
+    ∙ ap (λ q. (g.W.Work.parts s.terms.job.work).merge_of pages.merged q) c.requires.part
+    ∙ ap (λ t. (g.W.Work.parts t.job.work).merge_of pages.merged ((g.W.Work.parts t.job.work).part_of branch)) (sym s.key) in
     let view = ap (λ me. me.0) put.2 ∙ ap (λ me. me.0) c.take-pages.ensures.taken in
-    let work = subst (λ t. IsWorking t seat branch c.requires.turn.1 pages new.me.0) (sym s.key) (subst (λ v. IsWorking s.terms seat branch c.requires.turn.1 pages v) (sym view) c.requires.turn.2) in
-    (c.put.ensures.of_board, omega (arith, s.words), files_allowed m key s.table.shared.table_id.slots seat branch c.requires.turn.1 new.id pages put.0 new.me work (ap (λ me. me.1) put.2) got
-      (subst (λ p. IsLonger (File seat branch) p got put.0) merged put.1) (ap (λ p. p.history) same))
+    let work = subst (λ t. IsWorking t seat branch c.requires.turn.1 pages new.me.0) (sym s.key) (subst (λ v. IsWorking s.terms seat branch c.requires.turn.1 pages v) (sym view) c.requires.turn.2) in (
+      c.put.ensures.of_board,
+      omega (arith, s.words),
+      files_allowed m key s.table.shared.table_id.slots seat branch c.requires.turn.1 new.id pages put.0 new.me work (ap (λ me. me.1) put.2) got
+          (subst (λ p. IsLonger (File seat branch) p got put.0) merged put.1) (ap (λ p. p.history) same),
+    )
 
 pub fetch_add-requires-in-Err : goal.fetch_add-requires-in-Err
 fetch_add-requires-in-Err g c =
@@ -42,6 +45,9 @@ fetch_add-requires-in-Err g c =
     let same = same_slot taken pages (sym c.take-pages.ensures.pages ∙ c.requires.turn.3) in
     let merged = c.in-Err.ensures.unchanged ∙ ap (λ p. p.merged) same in
     let view = ap (λ me. me.0) put.2 ∙ ap (λ me. me.0) c.take-pages.ensures.taken in
-    let work = subst (λ t. IsWorking t seat branch c.requires.turn.1 pages new.me.0) (sym s.key) (subst (λ v. IsWorking s.terms seat branch c.requires.turn.1 pages v) (sym view) c.requires.turn.2) in
-    (c.put-in-Err.ensures.of_board, omega (arith, s.words), gives_up_allowed m key s.table.shared.table_id.slots seat branch c.requires.turn.1 new.id pages put.0 new.me work (ap (λ me. me.1) put.2) got
-      (subst (λ p. IsLonger (Gave seat branch) p got put.0) merged put.1) (ap (λ p. p.history) same))
+    let work = subst (λ t. IsWorking t seat branch c.requires.turn.1 pages new.me.0) (sym s.key) (subst (λ v. IsWorking s.terms seat branch c.requires.turn.1 pages v) (sym view) c.requires.turn.2) in (
+      c.put-in-Err.ensures.of_board,
+      omega (arith, s.words),
+      gives_up_allowed m key s.table.shared.table_id.slots seat branch c.requires.turn.1 new.id pages put.0 new.me work (ap (λ me. me.1) put.2) got
+          (subst (λ p. IsLonger (Gave seat branch) p got put.0) merged put.1) (ap (λ p. p.history) same),
+    )
