@@ -52,6 +52,48 @@ impl Work for Bits {
     ghost laws = { λ _. bits_laws };
 }
 
+/// The same parts; merging that of one branch is refused for memory. One thread merges in order, so it is the call after as
+/// many as the branch's number.
+#[derive(Drop)]
+struct Frail {
+    refused: u32,
+}
+
+impl Work for Frail {
+    type Part = u128;
+
+    ghost fits = { λ _ p. FitsBits p };
+
+    ghost parts = { λ _. bits };
+
+    ghost cost = { λ _ _. 0 };
+
+    ghost sure = { λ _. false };
+
+    fn none(&self) -> u128 {
+        0
+    }
+
+    fn part<L: Ledger>(
+        &self,
+        _alloc: Global,
+        branch: u32,
+        _steps: &mut Steps<L>,
+    ) -> Result<u128, OutOfMemory> {
+        Ok(if branch < 128 { 1 << branch } else { 0 })
+    }
+
+    fn merge(&self, _alloc: Global, acc: &mut u128, p: &u128) -> Result<(), OutOfMemory> {
+        if self.refused < 128 && *p == 1 << self.refused {
+            return Err(OutOfMemory);
+        }
+        *acc |= *p;
+        Ok(())
+    }
+
+    ghost laws = { λ _. bits_laws };
+}
+
 /// What a seat files for a branch: its part, or that it is given up for want of memory.
 fn filing<W: Work, L: Ledger>(alloc: Global, work: &W, branch: u32, blank: Blank) -> Filing<W::Part>
     requires name { blank.name ≡ L.name }
@@ -200,6 +242,17 @@ fn row<R: Wait, W: Work>(rt: &R, alloc: Global, job: Job<W>) -> Result<Book<W>, 
     Err(OutOfMemory)
 }
 
+/// Two seats, one of which files nothing.
+fn one_idle<R: Wait, W: Work>(rt: &R, alloc: Global, job: Job<W>) -> Result<Book<W>, OutOfMemory>
+    requires branches { (1 ≤ job.branches) × (job.branches ≤ 1025) }
+{
+    let (board, mut pass) = Board::open(alloc, job, 2)?;
+    let idle = board.split(&mut pass);
+    let busy = drain(rt, alloc, &board, pass);
+    let whole = board.meet(busy, idle);
+    Ok(board.close(whole))
+}
+
 /// How often each of the first 128 branches was filed.
 fn times_filed(history: &[Event], branch: u32) -> usize {
     let mut times = 0;
@@ -250,5 +303,38 @@ fn one_thread_takes_all(rt: HostRuntime) -> Result<(), Fail> {
     let book = spread(&rt, rt.alloc(), job, 1)?;
     assert_eq!(rt; book.merged, u128::MAX);
     assert_eq!(rt; book.history.len(), 128);
+    Ok(())
+}
+
+#[test]
+fn a_seat_files_nothing(rt: HostRuntime) -> Result<(), Fail> {
+    let job = Job {
+        work: Bits,
+        branches: 5,
+    };
+    let book = one_idle(&rt, rt.alloc(), job)?;
+    assert_eq!(rt; book.merged, 31);
+    assert_eq!(rt; book.history.len(), 5);
+    Ok(())
+}
+
+#[test]
+fn a_refused_merge_gives_up(rt: HostRuntime) -> Result<(), Fail> {
+    let job = Job {
+        work: Frail { refused: 2 },
+        branches: 4,
+    };
+    let book = spread(&rt, rt.alloc(), job, 1)?;
+    assert_eq!(rt;
+        book.history.as_slice(),
+        [
+            Event::File(0, 0),
+            Event::File(0, 1),
+            Event::Gave(0, 2),
+            Event::File(0, 3)
+        ]
+        .as_slice()
+    );
+    assert_eq!(rt; book.merged, 11);
     Ok(())
 }
