@@ -14,7 +14,7 @@ use Rattle.sa_core.specs.Gathered.{gathered, takes_in, is_taken_in, is_in, IsCor
 use Rattle.sa_core.proofs.Gathering.{nothing-gathered, gathered-fits, gathered-same, gathered-more}
 
 -- who files or gives back a branch holds it
-held : (w k : ℕ) (b : Branch) → holder_meets w k b ≡ None → (b ≢ Free) × (is_in b ≡ false)
+pub held : (w k : ℕ) (b : Branch) → holder_meets w k b ≡ None → (b ≢ Free) × (is_in b ≡ false)
 held w k Free e = cc
 held w k (Held v) e = ((λ h. cc), refl)
 held w k Filed e = cc
@@ -22,7 +22,7 @@ held w k Given e = cc
 held w k Swept e = cc
 
 -- what is swept was given back
-given : (k : ℕ) (b : Branch) → sweep_meets k b ≡ None → (b ≢ Free) × (is_in b ≡ false)
+pub given : (k : ℕ) (b : Branch) → sweep_meets k b ≡ None → (b ≢ Free) × (is_in b ≡ false)
 given k Free e = cc
 given k (Held v) e = cc
 given k Filed e = cc
@@ -54,7 +54,7 @@ still_out bs k j out = elim (cases_eq j k) [
 ]
 
 -- an answer that is a state comes after no refusal
-none_met : {P : Type 0} (met : Option CoreError) (r : Result (State P) CoreError) (t : State P) → (let either : Result (State P) CoreError = elim met [ None ↦ r | Some refused ↦ Err refused ] in either ≡ Ok t) → (met ≡ None) × (r ≡ Ok t)
+pub none_met : {P : Type 0} (met : Option CoreError) (r : Result (State P) CoreError) (t : State P) → (let either : Result (State P) CoreError = elim met [ None ↦ r | Some refused ↦ Err refused ] in either ≡ Ok t) → (met ≡ None) × (r ≡ Ok t)
 none_met None r t e = (refl, e)
 none_met (Some refused) r t e = cc
 
@@ -66,7 +66,7 @@ accepted (Some refused) lack before next now u h = absurd (ok_is_no_err u refuse
     ok_is_no_err : {U : Type 0} (u : U) (refused : CoreError) → ◌≡◌ {A = Result U CoreError} (Ok u) (Err refused) → ⊥
     ok_is_no_err u refused h = cc
 
-replayed-cons : {P : Type 0} (m : Parts P) (e : Event) (events : List Event) (s : State P) → meets e s.branches ≡ None → replayed m (e ∷ events) s ≡ replayed m events (after m e s)
+pub replayed-cons : {P : Type 0} (m : Parts P) (e : Event) (events : List Event) (s : State P) → meets e s.branches ≡ None → replayed m (e ∷ events) s ≡ replayed m events (after m e s)
 replayed-cons {P} m e events s met =
     ap (λ (met : Option CoreError). let either : Result (State P) CoreError = elim met [ None ↦ replayed m events (after m e s) | Some refused ↦ Err refused ] in either) met
 

@@ -42,3 +42,15 @@ pub record IsCoreOf {P : Type 0} (m : Parts P) (s : State P) : Type 0 where
   pub next_within : s.next ≤ length s.branches
   pub free_from_next : (k : ℕ) → s.next ≤ k → branch_at s.branches k ≡ Free
   pub gathers : s.merged ≡ gathered m (length s.branches) (λ k. is_in (branch_at s.branches k))
+
+-- whether an event is a claim
+abbrev pub is_claim : Event → Bool
+is_claim (Claim w) = true
+is_claim (File w k) = false
+is_claim (Gave w k) = false
+is_claim (Sweep k) = false
+
+-- whether one of the events is a claim
+abbrev pub has_claim : List Event → Bool
+has_claim [] = false
+has_claim (e ∷ events) = is_claim e || has_claim events

@@ -13,6 +13,6 @@ mod tests;
 mod work;
 
 pub use event::{Branch, CoreError, Event};
-pub use machine::{Core, order_is_free, replay};
+pub use machine::{Core, lists_go_on, order_is_free, replay};
 pub use std::alloc::AllocError as OutOfMemory;
 pub use work::{Job, Work};

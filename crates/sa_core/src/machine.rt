@@ -1,9 +1,11 @@
 //! The machine itself.
 
-ghost use Rattle.std.specs.Prelude.{◌≡◌, ◌<◌, ◌&&◌, ◌||◌, ℕ, Bool, not, All, IfOk, IsOk, OnOk, OnErr, IsTrue, MatchOption, List, length};
+ghost use Rattle.std.specs.Prelude.{◌≡◌, ◌<◌, ◌&&◌, ◌||◌, ◌++◌, ◌∷◌, [], ℕ, Bool, false, not, All, IfOk, IsOk, OnOk, OnErr, IsTrue, MatchOption, List, length};
 ghost use Rattle.sa_core.specs.declared.event.Event.{Event};
+ghost use Rattle.sa_core.specs.declared.event.Event.TheVariants.{Claim, File, Gave};
+ghost use Rattle.sa_core.specs.declared.event.Branch.TheVariants.{Given};
 ghost use Rattle.sa_core.specs.Machine.{State, Replays, replayed, opened, meets, after, claimed, marked, merged_in, branch_at, holder_meets, sweep_meets, takes_a_part, IsWithin, Answers};
-ghost use Rattle.sa_core.specs.Gathered.{IsCoreOf, gathered, whole, is_in, is_taken_in};
+ghost use Rattle.sa_core.specs.Gathered.{IsCoreOf, gathered, whole, is_in, is_taken_in, has_claim};
 
 use crate::OutOfMemory;
 use crate::event::{Branch, CoreError, Event};
@@ -214,4 +216,14 @@ pub fn order_is_free<W: Work>(work: &W)
     ensures whole { (n : ℕ) (events : List Event) (core : State W.Part) → replayed (W.parts work.now) events (opened (W.parts work.now) n) ≡ Ok core → ((k : ℕ) → k < n → IsTrue (is_taken_in events k)) → core.merged ≡ whole (W.parts work.now) n }
     ensures grouped { (n : ℕ) (p q : ℕ → Bool) → (W.parts work.now).merge_of (gathered (W.parts work.now) n p) (gathered (W.parts work.now) n q) ≡ gathered (W.parts work.now) n (λ k. p k || q k) }
     ensures alike { (n : ℕ) (events others : List Event) (core other : State W.Part) → replayed (W.parts work.now) events (opened (W.parts work.now) n) ≡ Ok core → replayed (W.parts work.now) others (opened (W.parts work.now) n) ≡ Ok other → ((k : ℕ) → k < n → is_taken_in events k ≡ is_taken_in others k) → core.merged ≡ other.merged }
+{}
+
+/// Laws for who makes a list of events step by step, as threads do, over every list that the table accepts. A list behind
+/// another goes on where that one ends. A claim leaves the same before the filings, givings back and sweeps of others as
+/// behind them, so the claims of a history may all stand first. A filing whose merge was refused for memory may stand as
+/// a giving back, which is accepted where the filing is and leaves the merged part as before.
+pub fn lists_go_on<W: Work>(work: &W)
+    ensures follows { (n : ℕ) (first others : List Event) (core : State W.Part) → replayed (W.parts work.now) first (opened (W.parts work.now) n) ≡ Ok core → replayed (W.parts work.now) (first ++ others) (opened (W.parts work.now) n) ≡ replayed (W.parts work.now) others core }
+    ensures claims_first { (n w : ℕ) (first others : List Event) (core : State W.Part) → replayed (W.parts work.now) (first ++ others) (opened (W.parts work.now) n) ≡ Ok core → has_claim others ≡ false → replayed (W.parts work.now) ((first ++ Claim w ∷ []) ++ others) (opened (W.parts work.now) n) ≡ Ok (claimed w core) }
+    ensures given_up { (n w k : ℕ) (first : List Event) (core : State W.Part) → replayed (W.parts work.now) first (opened (W.parts work.now) n) ≡ Ok core → meets (File w k) core.branches ≡ None → replayed (W.parts work.now) (first ++ Gave w k ∷ []) (opened (W.parts work.now) n) ≡ Ok (marked k Given core) }
 {}
