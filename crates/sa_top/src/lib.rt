@@ -15,3 +15,5 @@ pub use top::{run, run_alone};
 
 #[cfg(test)]
 mod tests;
+#[cfg(test)]
+mod typing_tests;

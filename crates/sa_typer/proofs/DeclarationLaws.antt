@@ -17,15 +17,16 @@ use Rattle.sa_syntax.specs.declared.stmt.LocalDeclr.{LocalDeclr}
 use Rattle.sa_syntax.specs.declared.stmt.LocalStart.{LocalStart}
 use Rattle.sa_syntax.specs.declared.stmt.LocalStart.TheVariants as inner
 use Rattle.sa_typed.specs.Cells.{is_static}
-use Rattle.sa_typed.specs.Layouts.{Layout, leaf, layout_with, shape_layout, layout_of, var_layout, nums}
+use Rattle.sa_typed.specs.Layouts.{Layout, leaf, rows, layout_with, shape_layout, layout_of, var_layout, nums}
 use Rattle.sa_typed.specs.WellTyped.{HasTypedItems, IsTypedStart, IsTypedStmt, num_of_input}
 use Rattle.sa_typed.specs.declared.program.Home.{Home}
 use Rattle.sa_typed.specs.declared.program.Home.TheVariants as home
 use Rattle.sa_typed.specs.declared.program.Input.{Input}
 use Rattle.sa_typed.specs.declared.program.Program.{Program}
 use Rattle.sa_typed.specs.declared.program.Var.{Var}
-use Rattle.sa_typed.specs.declared.shape.Shape as shapes
-use Rattle.sa_typed.specs.declared.shape.Shape.{Shape, Scalar, Struct, Array'}
+use Rattle.sa_typed.specs.declared.shape.Plain.{Plain}
+use Rattle.sa_typed.specs.declared.shape.Plain.TheVariants.{Scalar, Struct}
+use Rattle.sa_typed.specs.declared.shape.Shape.{Shape}
 use Rattle.sa_typed.specs.declared.stmt.Simple.TheVariants as simply
 use Rattle.sa_typed.specs.declared.stmt.Start.TheVariants as start
 use Rattle.sa_typed.specs.declared.stmt.Stmt.{Stmt}
@@ -41,16 +42,17 @@ use Rattle.sa_typer.specs.declared.typer.Typer.{Typer}
 use Rattle.sa_typer.specs.First.{expr_pos, init_pos}
 use Rattle.sa_typer.specs.Scopes.{Scope, is_visible, with_name}
 use Rattle.sa_typer.specs.Types.{has_volatile, shape_of}
+use Rattle.sa_typer.specs.Forms.{form_by}
 use Rattle.sa_typer.specs.Operands.{sort_of, is_object, expr_or}
-use Rattle.sa_typer.specs.Initialisers.{init, trimmed}
+use Rattle.sa_typer.specs.Initialisers.{trimmed, values}
 use Rattle.sa_typer.specs.Lists.{bounds}
 use Rattle.sa_typer.specs.Declarations.{named, var, added, variable, added_input, input, input_type, initial, global_by, global, next_global, globals, are_bare, is_struct, declared, beginning, begun_with, begun_by, begun, local_as, local_of, next_local, locals, local}
-use Rattle.sa_typer.specs.Typing.{Typed, Typing, Gives, and_then, pure, refused}
+use Rattle.sa_typer.specs.Typing.{Typed, Typing, Gives, and_then, pure, fault, refused}
 use Rattle.sa_typer.proofs.StructLaws.{IsFront, slice_front, slice_last, slice_cases, RefersBelow, refers_more}
 use Rattle.sa_typer.proofs.RowLaws.{AllStmts, stmts_append, simple_typed}
-use Rattle.sa_typer.proofs.WalkLaws.{Ends, Later, ElementBelow, element_more, IsThere, there_more, IsSound, Well, Leads, Any, gives, refuses, refusal, bind, next, from, here, free, also, so, either, one_of, unless, all_parts}
+use Rattle.sa_typer.proofs.WalkLaws.{Ends, Later, no_fault, ElementBelow, element_more, IsThere, there_more, IsSound, Well, Leads, Any, gives, refuses, refusal, bind, next, from, here, free, also, so, either, one_of, unless, all_parts}
 use Rattle.sa_typer.proofs.OperandLaws.{GoodOperand}
-use Rattle.sa_typer.proofs.PlaceLaws.{IsIndex, index_good}
+use Rattle.sa_typer.proofs.PlaceLaws.{IsIndex, index_good, shaped}
 use Rattle.sa_typer.proofs.TypeLaws.{GoodTy, shape_below, qualifiers_leads}
 use Rattle.sa_typer.proofs.ExprLaws.{expr_leads, object_type_leads, all_bounds_leads}
 use Rattle.sa_typer.proofs.InitialLaws.{Fits, initial_leads, whole_layout, has_items, has_none}
@@ -91,11 +93,11 @@ module _ (p : Program) where
   -- after a refusal nothing is promised, whatever else is seen
   refused_vars : (rule : ℕ) (q : Pos) (s : Typer) (v : Var) → Ends p (record (refused rule q s) { vars = (refused rule q s).vars ++ v ∷ [] }) → ⊥
   unfolding refused
-  refused_vars rule q s v e = cc e.clear
+  refused_vars rule q s v e = no_fault s.faults (fault rule q) e.clear
 
   refused_inputs : (rule : ℕ) (q : Pos) (s : Typer) (i : Input) → Ends p (record (refused rule q s) { inputs = (refused rule q s).inputs ++ i ∷ [] }) → ⊥
   unfolding refused
-  refused_inputs rule q s i e = cc e.clear
+  refused_inputs rule q s i e = no_fault s.faults (fault rule q) e.clear
 
   same_defs : (rule : ℕ) (q : Pos) (s : Typer) → length s.structs.defs ≤ length (refused rule q s).structs.defs
   unfolding refused
@@ -196,22 +198,22 @@ module _ (p : Program) where
   holds_none : (shape : Shape) → HoldsItems shape []
   holds_none shape k v g e i = has_none p k v i
 
-  trimmed_none : (shape : Shape) → HoldsItems shape (trimmed [])
-  unfolding trimmed
-  trimmed_none shape = holds_none shape
+  values_leads : (i : Init) (shape : Shape) (s : Typer) → Leads p (RefersBelow (length s.structs.defs) shape) s (λ zs t. HoldsItems shape zs) (values i shape s)
+  unfolding values
+  values_leads i shape s = next (initial_leads p i shape s) (λ zs t. gives (λ w h e. holds_fit shape zs h.1))
 
-  begins_leads : (volatile : Bool) (shape : Shape) (b : Begins) (s : Typer) → Leads p (RefersBelow (length s.structs.defs) shape) s (λ zs t. HoldsItems shape (trimmed zs)) (initial volatile shape b s)
-  begins_leads volatile shape begins.Nothing s = gives (λ w h e. trimmed_none shape)
+  begins_leads : (volatile : Bool) (shape : Shape) (b : Begins) (s : Typer) → Leads p (RefersBelow (length s.structs.defs) shape) s (λ zs t. HoldsItems shape zs) (initial volatile shape b s)
+  begins_leads volatile shape begins.Nothing s = gives (λ w h e. holds_none shape)
   begins_leads volatile shape (begins.Init q i) s =
       bind {Z = λ a t. RefersBelow (length t.structs.defs) shape} (unless volatile 20 (init_pos i)) (λ a t l h w b. refers_more (length s.structs.defs) (length t.structs.defs) shape l.more h)
-      (λ a t. so (initial_leads p i shape t) (λ zs u f. holds_fit shape zs f))
+      (λ a t. values_leads i shape t)
 
   global_by_leads : (o : Option Num) (volatile : Bool) (ty : Ty) (x : Name) (shape : Shape) (b : Begins) (s : Typer) → Leads p (RefersBelow (length s.structs.defs) shape) s Any (global_by o volatile ty x shape b s)
   global_by_leads (Some num) volatile ty x shape b s = input_leads x num s
   global_by_leads None volatile ty x shape b s =
-      bind {Z = λ zs t. IsNew t shape home.Global (trimmed zs)} (begins_leads volatile shape b s)
+      bind {Z = λ zs t. IsNew t shape home.Global zs} (begins_leads volatile shape b s)
       (λ zs t l h w y. record { below = refers_more (length s.structs.defs) (length t.structs.defs) shape l.more h; stays = refl; items = y })
-      (λ zs t. next (variable_leads x shape home.Global ty.constant (trimmed zs) t) (λ k u. gives (λ w h e. tt)))
+      (λ zs t. next (variable_leads x shape home.Global ty.constant zs t) (λ k u. gives (λ w h e. tt)))
 
   global_leads : (volatile : Bool) (ty : Ty) (d : InitDeclr) (s : Typer) → Leads p (GoodTy ty s) s Any (global volatile ty d s)
   unfolding global
@@ -240,26 +242,25 @@ module _ (p : Program) where
     pub items : HoldsItems shape b.initial
     pub start : (k : ℕ) (v : Var) → slice_get p.vars k ≡ Some v → v.shape ≡ shape → IsTypedStart p k b.start
 
-  scalar_layout : (k : ℕ) (v : Var) (num : Num) → slice_get p.vars k ≡ Some v → v.shape ≡ Scalar num → layout_of p k ≡ leaf num
-  unfolding layout_with
+  scalar_layout : (k : ℕ) (v : Var) (num : Num) → slice_get p.vars k ≡ Some v → v.shape ≡ shaped [] (Scalar num) → layout_of p k ≡ leaf num
+  unfolding layout_with rows
   scalar_layout k v num h e = whole_layout p k v h ∙ ap (shape_layout p.structs) e
 
   any_beginning : (shape : Shape) → IsBeginning shape (beginning start.Any [])
   any_beginning shape = record { items = holds_none shape; start = λ k v h e. tt }
 
-  begun_with_leads : (q r : Pos) (shape : Shape) (x : Operand) (s : Typer) → Leads p (GoodOperand p x) s (λ b t. IsBeginning shape b) (begun_with q r shape x s)
-  unfolding shapes.out-Shape denote.Hole.Carrier.out
-  begun_with_leads q r (Scalar num) x s =
+  begun_with_leads : (q r : Pos) (ns : List ℕ) (t : Plain) (x : Operand) (s : Typer) → Leads p (GoodOperand p x) s (λ b u. IsBeginning (shaped ns t) b) (begun_with q r (form_by ns t) x s)
+  begun_with_leads q r [] (Scalar num) x s =
       next (unless (is_object (sort_of x)) 5 q)
-      (λ a t. gives (λ w h e. let i = index_good p x h.0 h.1 in record { items = holds_none (Scalar num); start = λ k v g f. (i.typed, (num, scalar_layout k v num g f)) }))
-  begun_with_leads q r (Struct k) x s = refuses 20 r
-  begun_with_leads q r (Array' m y n) x s = refuses 20 r
+      (λ a t. gives (λ w h e. let i = index_good p x h.0 h.1 in record { items = holds_none (shaped [] (Scalar num)); start = λ k v g f. (i.typed, (num, scalar_layout k v num g f)) }))
+  begun_with_leads q r [] (Struct k) x s = refuses 20 r
+  begun_with_leads q r (n ∷ ns) t x s = refuses 20 r
 
   begun_by_leads : (q : Pos) (shape : Shape) (i : Init) (s : Typer) → Leads p (RefersBelow (length s.structs.defs) shape) s (λ b t. IsBeginning shape b) (begun_by q shape i s)
   unfolding inits.out-Init denote.Hole.Carrier.out
-  begun_by_leads q shape (Value e) s = next (free (expr_leads p e s)) (λ x t. from (λ h. h.1) (begun_with_leads q (expr_pos e) shape x t))
+  begun_by_leads q shape (Value e) s = next (free (expr_leads p e s)) (λ x t. from (λ h. h.1) (begun_with_leads q (expr_pos e) shape.dims shape.plain x t))
   begun_by_leads q shape (Braces' r n is) s =
-      next (initial_leads p (Braces' r n is) shape s) (λ zs t. gives (λ w h e. record { items = holds_fit shape zs h.1; start = λ k v g f. tt }))
+      next (values_leads (Braces' r n is) shape s) (λ zs t. gives (λ w h e. record { items = h.1; start = λ k v g f. tt }))
 
   begun_leads : (shape : Shape) (b : LocalStart) (s : Typer) → Leads p (RefersBelow (length s.structs.defs) shape) s (λ b t. IsBeginning shape b) (begun shape b s)
   unfolding begun

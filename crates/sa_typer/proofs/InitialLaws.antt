@@ -9,26 +9,31 @@ use Rattle.sa_base.specs.declared.pos.Pos.{Pos}
 use Rattle.sa_syntax.specs.declared.decl.Init.{Init, Value, Braces', Row_of-Init, end_of-Init, more_of-Init}
 use Rattle.sa_typed.specs.Arithmetic.{is_of}
 use Rattle.sa_typed.specs.Layouts as layouts
-use Rattle.sa_typed.specs.Layouts.{Layout, Layouts, leaf, row, fields, no_field, field, layout_with, layouts_with, struct_layout, shape_layout, layout_of, var_layout, nums, all_nums}
+use Rattle.sa_typed.specs.Layouts.{Layout, Layouts, leaf, row, fields, no_field, field, rows, layout_with, layouts_with, struct_layout, shape_layout, layout_of, var_layout, nums, all_nums}
 use Rattle.sa_typed.specs.WellTyped.{HasTypedItems}
 use Rattle.sa_typed.specs.declared.program.Program.{Program}
 use Rattle.sa_typed.specs.declared.program.Var.{Var}
 use Rattle.sa_typed.specs.declared.shape.FieldDef.{FieldDef}
-use Rattle.sa_typed.specs.declared.shape.Shape as shapes
-use Rattle.sa_typed.specs.declared.shape.Shape.{Shape, Scalar, Struct, Array', end_of-Shape, more_of-Shape}
+use Rattle.sa_typed.specs.declared.shape.Plain.{Plain}
+use Rattle.sa_typed.specs.declared.shape.Plain.TheVariants.{Scalar, Struct}
+use Rattle.sa_typed.specs.declared.shape.Shape.{Shape}
 use Rattle.sa_typed.specs.declared.shape.StructDef.{StructDef}
 use Rattle.sa_typer.specs.declared.operand.Operand.{Operand}
 use Rattle.sa_typer.specs.declared.operand.Operand.TheVariants as a
 use Rattle.sa_typer.specs.declared.typer.Typer.{Typer}
 use Rattle.sa_typer.specs.First.{expr_pos}
-use Rattle.sa_typer.specs.Structures.{Structs, sum_by, sizes_of, elements_in, field_shape, field_shapes, shapes_in, slots, slot, missing}
+use Rattle.sa_typer.specs.declared.form.Form.{Form}
+use Rattle.sa_typer.specs.declared.form.Form.TheVariants as form
+use Rattle.sa_typer.specs.Forms.{form_by, form_of, inside}
+use Rattle.sa_typer.specs.Structures.{Structs, sum_by, sizes_of, elements_in, field_shape, field_shapes, shapes_in, slots_by, slots, slot, missing_by, missing}
 use Rattle.sa_typer.specs.Operands.{known_value}
 use Rattle.sa_typer.specs.Expressions.{expr}
-use Rattle.sa_typer.specs.Initialisers.{no_object, within, item, valued, zeros, slotted, init, braced, is_zero, before_zeros, trimmed}
+use Rattle.sa_typer.specs.Initialisers.{within, item, valued, zeros, slotted, init, braced, is_zero, before_zeros, trimmed}
 use Rattle.sa_typer.specs.Typing.{Typed, Typing, Gives, and_then, pure, refused}
 use Rattle.sa_typer.proofs.StructLaws.{RefersBelow, FieldsBelow, refers_more, struct_known, elements_weight, weight, AreSized, size_weight, sizes_known}
-use Rattle.sa_typer.proofs.WalkLaws.{Ends, Later, Well, Leads, Any, gives, refuses, refusal, bind, next, from, here, free, so, either, one_of, unless}
-use Rattle.sa_typer.proofs.OperandLaws.{GoodOperand, zero_is_of, constant_leads}
+use Rattle.sa_typer.proofs.WalkLaws.{Ends, Later, Well, Leads, state, Any, gives, refuses, refusal, bind, next, from, here, free, so, either, one_of, unless}
+use Rattle.sa_typer.proofs.OperandLaws.{GoodOperand, zero_is_of, constant_leads, no_object_leads}
+use Rattle.sa_typer.proofs.PlaceLaws.{shaped}
 use Rattle.sa_typer.proofs.ExprLaws.{expr_leads}
 
 -- ---- values of such types
@@ -93,10 +98,25 @@ abbrev all_structs : Program → Structs
 all_structs p = record { defs = p.structs; members = [] }
 
 -- the types of the elements after so many items
+abbrev left_by : Program → Shape → Form → ℕ → List Num
+left_by p shape (form.Scalar num) k = num ∷ []
+left_by p shape f k = slots_nums p (drop k (slots_by (all_structs p) shape f))
+
 abbrev left_nums : Program → Shape → ℕ → List Num
-left_nums p (Scalar num) k = num ∷ []
-left_nums p (Struct j) k = slots_nums p (drop k (slots (all_structs p) (Struct j)))
-left_nums p (Array' m (more_of-Shape x end_of-Shape) n) k = slots_nums p (drop k (slots (all_structs p) (Array' m (more_of-Shape x end_of-Shape) n)))
+left_nums p shape k = left_by p shape (form_of shape) k
+
+-- a structure that is defined
+abbrev FormBelow : ℕ → Form → Type 0
+FormBelow n (form.Struct k) = k < n
+FormBelow n _ = Unit {0}
+
+form_below_by : (n : ℕ) (ns : List ℕ) (q : Plain) → RefersBelow n (shaped ns q) → FormBelow n (form_by ns q)
+form_below_by n [] (Scalar num) h = tt
+form_below_by n [] (Struct k) h = h
+form_below_by n (m ∷ ns) q h = tt
+
+form_below : (n : ℕ) (shape : Shape) → RefersBelow n shape → FormBelow n (form_of shape)
+form_below n shape h = form_below_by n shape.dims shape.plain h
 
 unfoldable AllBelow : ℕ → List Shape → Type 0
 AllBelow n [] = Unit {0}
@@ -131,25 +151,24 @@ get_drop (y ∷ xs) (suc k) x e = get_drop xs k x e
 
 module _ (p : Program) where
   -- ---- items
-  object_leads : {X : Type 0} (x : Operand) (s : Typer) → Leads p X s Any (no_object x s)
-  object_leads (a.Number x num v) s = gives (λ w h e. tt)
-  object_leads (a.Struct x k fixed q) s = refuses 5 q
-  object_leads (a.Array q) s = refuses 5 q
-  object_leads a.Unknown s = gives (λ w h e. tt)
-
   within_leads : {X : Type 0} (q : Pos) (num : Num) (o : Option ℤ) (s : Typer) → Leads p X s (λ z t. is_of num z ≡ true) (within q num o s)
   within_leads q num None s = gives (λ w h e. zero_is_of num)
   within_leads q num (Some z) s = one_of (is_of num z) _ _ (λ b. gives (λ w h e. b)) (λ b. refuses 20 q)
 
   item_leads : {X : Type 0} (q : Pos) (num : Num) (x : Operand) (s : Typer) → Leads p X s (λ z t. is_of num z ≡ true) (item q num x s)
   unfolding item
-  item_leads q num x s = next (object_leads x s) (λ a t. next (constant_leads p q (known_value x) t) (λ o u. within_leads q num o u))
+  item_leads q num x s = next (no_object_leads p x s) (λ a t. next (constant_leads p q (known_value x) t) (λ o u. within_leads q num o u))
 
-  valued_leads : (q : Pos) (shape : Shape) (x : Operand) (before : List Num) (found : List ℤ) (s : Typer) → Leads p (Fits before found) s (λ zs t. Fits (before ++ nums (shape_layout p.structs shape)) zs) (valued q shape x found s)
-  unfolding valued layout_with nums shapes.out-Shape denote.Hole.Carrier.out
-  valued_leads q (Scalar num) x before found s = next (item_leads q num x s) (λ z t. gives (λ w h e. fits_append before (num ∷ []) found (z ∷ []) h.0 (fits_one num z h.1)))
-  valued_leads q (Struct k) x before found s = refuses 20 q
-  valued_leads q (Array' m inner n) x before found s = refuses 20 q
+  valued_by : (q : Pos) (ns : List ℕ) (t : Plain) (x : Operand) (before : List Num) (found : List ℤ) (s : Typer) →
+      Leads p (Fits before found) s (λ zs u. Fits (before ++ nums (shape_layout p.structs (shaped ns t))) zs) (valued q (form_by ns t) x found s)
+  unfolding layout_with rows nums
+  valued_by q [] (Scalar num) x before found s = next (item_leads q num x s) (λ z t. gives (λ w h e. fits_append before (num ∷ []) found (z ∷ []) h.0 (fits_one num z h.1)))
+  valued_by q [] (Struct k) x before found s = refuses 20 q
+  valued_by q (n ∷ ns) t x before found s = refuses 20 q
+
+  valued_leads : (q : Pos) (shape : Shape) (x : Operand) (before : List Num) (found : List ℤ) (s : Typer) →
+      Leads p (Fits before found) s (λ zs t. Fits (before ++ nums (shape_layout p.structs shape)) zs) (valued q (form_of shape) x found s)
+  valued_leads q shape x before found s = valued_by q shape.dims shape.plain x before found s
 
   -- ---- slots
   fields_nums : (fs : List FieldDef) → all_nums (layouts_with (λ k. struct_layout (reverse p.structs) k) fs) ≡ slots_nums p (map field_shape fs)
@@ -170,19 +189,18 @@ module _ (p : Program) where
       among (d ∷ ds) zero h = (d, refl)
       among (d ∷ ds) (suc k) h = among ds k (omega arith)
 
-  slots_same : (s : Typer) (shape : Shape) → Ends p s → RefersBelow (length s.structs.defs) shape → slots s.structs shape ≡ slots (all_structs p) shape
-  unfolding slots RefersBelow
-  slots_same s (Scalar num) e h = refl
-  slots_same s (Struct k) e h = let d = struct_there s k h in ap shapes_in (d.1 ∙ sym (e.structs k d.0 d.1))
-  slots_same s (Array' m (more_of-Shape x end_of-Shape) n) e h = refl
+  slots_same : (s : Typer) (shape : Shape) (f : Form) → Ends p s → FormBelow (length s.structs.defs) f → slots_by s.structs shape f ≡ slots_by (all_structs p) shape f
+  slots_same s shape (form.Scalar num) e h = refl
+  slots_same s shape (form.Struct k) e h = let d = struct_there s k h in ap shapes_in (d.1 ∙ sym (e.structs k d.0 d.1))
+  slots_same s shape (form.Array n) e h = refl
 
-  slots_below : (s : Typer) (shape : Shape) → Well p s → RefersBelow (length s.structs.defs) shape → AllBelow (length s.structs.defs) (slots s.structs shape)
-  unfolding slots RefersBelow AllBelow
-  slots_below s (Scalar num) w h = tt
-  slots_below s (Struct k) w h =
-      let d = struct_there s k h in
+  slots_below : (s : Typer) (shape : Shape) (f : Form) → Well p s → RefersBelow (length s.structs.defs) shape → FormBelow (length s.structs.defs) f → AllBelow (length s.structs.defs) (slots_by s.structs shape f)
+  unfolding AllBelow
+  slots_below s shape (form.Scalar num) w h g = tt
+  slots_below s shape (form.Struct k) w h g =
+      let d = struct_there s k g in
       subst (λ (o : Option StructDef). AllBelow (length s.structs.defs) (shapes_in o)) (sym d.1) (fields_below (length s.structs.defs) k d.0.fields (omega arith) (w.defs k d.0 d.1))
-  slots_below s (Array' m (more_of-Shape x end_of-Shape) n) w h = same_below (length s.structs.defs) n x h
+  slots_below s shape (form.Array n) w h g = same_below (length s.structs.defs) n (inside 1 shape) h
 
   sum_slots : (n : ℕ) (sizes : List ℕ) (xs : List Shape) → AreSized false p.structs n sizes → AllBelow n xs → sum_by false sizes xs ≡ length (slots_nums p xs)
   unfolding sum_by slots_nums AllBelow
@@ -193,62 +211,54 @@ module _ (p : Program) where
       let both = length-append (nums (shape_layout p.structs x)) (slots_nums p xs) in
       omega (arith, one, more, both)
 
-  slots_count : (s : Typer) (shape : Shape) (k : ℕ) → Well p s → Ends p s → RefersBelow (length s.structs.defs) shape → elements_in s.structs (drop k (slots s.structs shape)) ≡ length (slots_nums p (drop k (slots (all_structs p) shape)))
+  slots_count : (s : Typer) (shape : Shape) (f : Form) (k : ℕ) → Well p s → Ends p s → RefersBelow (length s.structs.defs) shape → FormBelow (length s.structs.defs) f →
+      elements_in s.structs (drop k (slots_by s.structs shape f)) ≡ length (slots_nums p (drop k (slots_by (all_structs p) shape f)))
   unfolding elements_in
-  slots_count s shape k w e h =
-      sum_slots (length s.structs.defs) (sizes_of false s.structs.defs) (drop k (slots s.structs shape)) (sizes_known false p.structs s.structs.defs e.structs w.defs)
-      (drop_below (length s.structs.defs) k (slots s.structs shape) (slots_below s shape w h))
-      ∙ ap (λ (xs : List Shape). length (slots_nums p (drop k xs))) (slots_same s shape e h)
+  slots_count s shape f k w e h g =
+      sum_slots (length s.structs.defs) (sizes_of false s.structs.defs) (drop k (slots_by s.structs shape f)) (sizes_known false p.structs s.structs.defs e.structs w.defs)
+      (drop_below (length s.structs.defs) k (slots_by s.structs shape f) (slots_below s shape f w h g))
+      ∙ ap (λ (xs : List Shape). length (slots_nums p (drop k xs))) (slots_same s shape f e g)
+
+  count_by : (s : Typer) (shape : Shape) (f : Form) (k : ℕ) → Well p s → Ends p s → RefersBelow (length s.structs.defs) shape → FormBelow (length s.structs.defs) f → missing_by s.structs shape f k ≡ length (left_by p shape f k)
+  count_by s shape (form.Scalar num) k w e h g = refl
+  count_by s shape (form.Struct j) k w e h g = slots_count s shape (form.Struct j) k w e h g
+  count_by s shape (form.Array n) k w e h g = slots_count s shape (form.Array n) k w e h g
 
   missing_count : (s : Typer) (shape : Shape) (k : ℕ) → Well p s → Ends p s → RefersBelow (length s.structs.defs) shape → missing s.structs shape k ≡ length (left_nums p shape k)
   unfolding missing
-  missing_count s (Scalar num) k w e h = refl
-  missing_count s (Struct j) k w e h = slots_count s (Struct j) k w e h
-  missing_count s (Array' m (more_of-Shape x end_of-Shape) n) k w e h = slots_count s (Array' m (more_of-Shape x end_of-Shape) n) k w e h
+  missing_count s shape k w e h = count_by s shape (form_of shape) k w e h (form_below (length s.structs.defs) shape h)
 
-  slot_nums : (shape x : Shape) (k : ℕ) → slice_get (slots (all_structs p) shape) k ≡ Some x →
-      slots_nums p (drop k (slots (all_structs p) shape)) ≡ nums (shape_layout p.structs x) ++ slots_nums p (drop (k + 1) (slots (all_structs p) shape))
+  slot_nums : (xs : List Shape) (x : Shape) (k : ℕ) → slice_get xs k ≡ Some x → slots_nums p (drop k xs) ≡ nums (shape_layout p.structs x) ++ slots_nums p (drop (k + 1) xs)
   unfolding slots_nums
-  slot_nums shape x k h =
+  slot_nums xs x k h =
       let more : suc k ≡ k + 1 = omega arith in
-      ap (slots_nums p) (get_drop (slots (all_structs p) shape) k x h) ∙ ap (λ (j : ℕ). nums (shape_layout p.structs x) ++ slots_nums p (drop j (slots (all_structs p) shape))) more
+      ap (slots_nums p) (get_drop xs k x h) ∙ ap (λ (j : ℕ). nums (shape_layout p.structs x) ++ slots_nums p (drop j xs)) more
 
-  slot_here : (s : Typer) (shape x : Shape) (k : ℕ) → Ends p s → RefersBelow (length s.structs.defs) shape → slot s.structs shape k ≡ Some x → slice_get (slots (all_structs p) shape) k ≡ Some x
-  unfolding slot
-  slot_here s shape x k e h g = ap (λ (xs : List Shape). slice_get xs k) (sym (slots_same s shape e h)) ∙ g
-
-  no_slot : (num : Num) (x : Shape) (k : ℕ) → slice_get (slots (all_structs p) (Scalar num)) k ≡ Some x → ⊥
-  unfolding slots
-  no_slot num x k h = cc
+  next_by : (shape : Shape) (f : Form) (x : Shape) (k : ℕ) → slice_get (slots_by (all_structs p) shape f) k ≡ Some x → left_by p shape f k ≡ nums (shape_layout p.structs x) ++ left_by p shape f (k + 1)
+  next_by shape (form.Scalar num) x k h = cc
+  next_by shape (form.Struct j) x k h = slot_nums (slots_by (all_structs p) shape (form.Struct j)) x k h
+  next_by shape (form.Array n) x k h = slot_nums (slots_by (all_structs p) shape (form.Array n)) x k h
 
   next_slot : (s : Typer) (shape x : Shape) (k : ℕ) → Ends p s → RefersBelow (length s.structs.defs) shape → slot s.structs shape k ≡ Some x → left_nums p shape k ≡ nums (shape_layout p.structs x) ++ left_nums p shape (k + 1)
-  next_slot s (Scalar num) x k e h g = absurd (none g)
-    where
-      none : slot s.structs (Scalar num) k ≡ Some x → ⊥
-      none g = let f = slot_here s (Scalar num) x k e h g in no_slot num x k f
-  next_slot s (Struct j) x k e h g = slot_nums (Struct j) x k (slot_here s (Struct j) x k e h g)
-  next_slot s (Array' m (more_of-Shape y end_of-Shape) n) x k e h g = slot_nums (Array' m (more_of-Shape y end_of-Shape) n) x k (slot_here s (Array' m (more_of-Shape y end_of-Shape) n) x k e h g)
+  unfolding slot slots
+  next_slot s shape x k e h g = next_by shape (form_of shape) x k (ap (λ (xs : List Shape). slice_get xs k) (sym (slots_same s shape (form_of shape) e (form_below (length s.structs.defs) shape h))) ∙ g)
 
   slot_below : (s : Typer) (shape x : Shape) (k : ℕ) → Well p s → RefersBelow (length s.structs.defs) shape → slot s.structs shape k ≡ Some x → RefersBelow (length s.structs.defs) x
-  unfolding slot
-  slot_below s shape x k w h g = get_below (length s.structs.defs) k (slots s.structs shape) x (slots_below s shape w h) g
+  unfolding slot slots
+  slot_below s shape x k w h g =
+      get_below (length s.structs.defs) k (slots_by s.structs shape (form_of shape)) x (slots_below s shape (form_of shape) w h (form_below (length s.structs.defs) shape h)) g
 
-  struct_slots : (k : ℕ) (d : StructDef) → slice_get p.structs k ≡ Some d → slots (all_structs p) (Struct k) ≡ map field_shape d.fields
-  unfolding slots
-  struct_slots k d h = ap shapes_in h
-
-  array_slots : (m : _) (x : Shape) (n : ℕ) → slots (all_structs p) (Array' m (more_of-Shape x end_of-Shape) n) ≡ replicate n x
-  unfolding slots
-  array_slots m x n = refl
-
-  first_slots : (s : Typer) (shape : Shape) → Well p s → Ends p s → RefersBelow (length s.structs.defs) shape → left_nums p shape 0 ≡ nums (shape_layout p.structs shape)
-  unfolding layout_with nums RefersBelow
-  first_slots s (Scalar num) w e h = refl
-  first_slots s (Struct k) w e h =
+  first_by : (s : Typer) (ns : List ℕ) (q : Plain) → Well p s → Ends p s → RefersBelow (length s.structs.defs) (shaped ns q) → left_nums p (shaped ns q) 0 ≡ nums (shape_layout p.structs (shaped ns q))
+  unfolding layout_with rows nums
+  first_by s [] (Scalar num) w e h = refl
+  first_by s [] (Struct k) w e h =
       let d = struct_there s k h in
       let there = e.structs k d.0 d.1 in
-      ap (slots_nums p) (struct_slots k d.0 there) ∙ sym (fields_nums d.0.fields) ∙ ap nums (sym (struct_known p.structs k d.0 there (w.defs k d.0 d.1)))
-  first_slots s (Array' m (more_of-Shape x end_of-Shape) n) w e h = ap (slots_nums p) (array_slots m x n) ∙ sym (same_nums n x)
+      ap (λ (o : Option StructDef). slots_nums p (shapes_in o)) there ∙ sym (fields_nums d.0.fields) ∙ ap nums (sym (struct_known p.structs k d.0 there (w.defs k d.0 d.1)))
+  first_by s (n ∷ ns) q w e h = sym (same_nums n (shaped ns q))
+
+  first_slots : (s : Typer) (shape : Shape) → Well p s → Ends p s → RefersBelow (length s.structs.defs) shape → left_nums p shape 0 ≡ nums (shape_layout p.structs shape)
+  first_slots s shape w e h = first_by s shape.dims shape.plain w e h
 
   -- ---- initialisers
   -- an object whose structures are defined, after values that fit
@@ -257,29 +267,37 @@ module _ (p : Program) where
     pub fits : Fits before found
 
   -- the same after so many items, with the types of all values in the end
-  record IsLeft (s : Typer) (shape : Shape) (k : ℕ) (before total : List Num) (found : List ℤ) : Type 0 where
+  record IsLeft (s : Typer) (shape : Shape) (k : ℕ) (total : List Num) (found : List ℤ) : Type 0 where
+    before : List Num
     below : RefersBelow (length s.structs.defs) shape
     whole : before ++ left_nums p shape k ≡ total
     fits : Fits before found
 
-  ends_row : (s : Typer) (shape : Shape) (k : ℕ) (before total : List Num) (found : List ℤ) → Leads p (IsLeft s shape k before total found) s (λ zs t. Fits total zs) (Gives (found ++ zeros (missing s.structs shape k)) s)
-  ends_row s shape k before total found =
+  ends_row : (s : Typer) (shape : Shape) (k : ℕ) (total : List Num) (found : List ℤ) → Leads p (IsLeft s shape k total found) s (λ zs t. Fits total zs) (Gives (found ++ zeros (missing s.structs shape k)) s)
+  ends_row s shape k total found =
       gives (λ w h e.
       subst (λ (ns : List Num). Fits ns (found ++ zeros (missing s.structs shape k))) h.whole
-      (fits_append before (left_nums p shape k) found (zeros (missing s.structs shape k)) h.fits (fits_zeros (left_nums p shape k) (missing s.structs shape k) (missing_count s shape k w e h.below))))
+      (fits_append h.before (left_nums p shape k) found (zeros (missing s.structs shape k)) h.fits (fits_zeros (left_nums p shape k) (missing s.structs shape k) (missing_count s shape k w e h.below))))
 
-  slot_leads : (q : Pos) (shape : Shape) (k : ℕ) (before total : List Num) (found : List ℤ) (s : Typer) (o : Option Shape) (m : Shape → Typing (List ℤ)) (rest : List ℤ → Typing (List ℤ)) → slot s.structs shape k ≡ o →
-      ((x : Shape) → Leads p (Starts s x before found) s (λ zs t. Fits (before ++ nums (shape_layout p.structs x)) zs) (m x s)) →
-      ((x : Shape) (zs : List ℤ) (t : Typer) → Leads p (IsLeft t shape (k + 1) (before ++ nums (shape_layout p.structs x)) total zs) t (λ zs t. Fits total zs) (rest zs t)) →
-      Leads p (IsLeft s shape k before total found) s (λ zs t. Fits total zs) (slotted q o found m rest s)
-  slot_leads q shape k before total found s None m rest g one more = refuses 20 q
-  slot_leads q shape k before total found s (Some x) m rest g one more =
-      here {Z = IsLeft s shape k before total found × ((before ++ nums (shape_layout p.structs x)) ++ left_nums p shape (k + 1) ≡ total)} (λ w h e. (
-        h,
-        append_assoc before (nums (shape_layout p.structs x)) (left_nums p shape (k + 1)) ∙ ap (λ (ns : List Num). before ++ ns) (sym (next_slot s shape x k e h.below g)) ∙ h.whole,
-      ))
-      (bind {Z = λ zs t. IsLeft t shape (k + 1) (before ++ nums (shape_layout p.structs x)) total zs} (here (λ w h e. record { below = slot_below s shape x k w h.0.below g; fits = h.0.fits }) (one x))
-      (λ zs t l h w f. record { below = refers_more (length s.structs.defs) (length t.structs.defs) shape l.more h.0.below; whole = h.1; fits = f }) (λ zs t. more x zs t))
+  -- an item fills its slot
+  slot_leads : (q : Pos) (shape : Shape) (k : ℕ) (total : List Num) (found : List ℤ) (s : Typer) (o : Option Shape) (m : Shape → Typing (List ℤ)) → slot s.structs shape k ≡ o →
+      ((x : Shape) (before : List Num) → Leads p (Starts s x before found) s (λ zs t. Fits (before ++ nums (shape_layout p.structs x)) zs) (m x s)) →
+      Leads p (IsLeft s shape k total found) s (λ zs t. IsLeft t shape (k + 1) total zs) (slotted q o found m s)
+  slot_leads q shape k total found s None m g one = refuses 20 q
+  slot_leads q shape k total found s (Some x) m g one = record {
+    later = (one x []).later;
+    good = λ w h e.
+        let now = (one x []).later.back e in
+        let done = (one x h.before).good w (record { below = slot_below s shape x k w h.below g; fits = h.fits }) e in (
+          done.0,
+          record {
+            before = h.before ++ nums (shape_layout p.structs x);
+            below = refers_more (length s.structs.defs) (length (state (m x s)).structs.defs) shape (one x []).later.more h.below;
+            whole = append_assoc h.before (nums (shape_layout p.structs x)) (left_nums p shape (k + 1)) ∙ ap (λ (ns : List Num). h.before ++ ns) (sym (next_slot s shape x k now h.below g)) ∙ h.whole;
+            fits = done.1;
+          },
+        );
+  }
 
   mutual
     unfolding init
@@ -287,13 +305,14 @@ module _ (p : Program) where
     pub init_leads : (i : Init) (shape : Shape) (before : List Num) (found : List ℤ) (s : Typer) → Leads p (Starts s shape before found) s (λ zs t. Fits (before ++ nums (shape_layout p.structs shape)) zs) (init i shape found s)
     init_leads (Value e) shape before found s = next (free (expr_leads p e s)) (λ x t. from (λ h. h.0.fits) (valued_leads (expr_pos e) shape x before found t))
     init_leads (Braces' q n is) shape before found s =
-        here (λ w h e. record { below = h.below; whole = ap (λ (ns : List Num). before ++ ns) (first_slots s shape w e h.below); fits = h.fits }) (braced_leads is q shape 0 before (before ++ nums (shape_layout p.structs shape)) found s)
+        here (λ w h e. record { before = before; below = h.below; whole = ap (λ (ns : List Num). before ++ ns) (first_slots s shape w e h.below); fits = h.fits })
+        (braced_leads is q shape 0 (before ++ nums (shape_layout p.structs shape)) found s)
 
-    braced_leads : {n : _} (is : Row_of-Init n) (q : Pos) (shape : Shape) (k : ℕ) (before total : List Num) (found : List ℤ) (s : Typer) → Leads p (IsLeft s shape k before total found) s (λ zs t. Fits total zs) (braced is q shape k found s)
-    braced_leads end_of-Init q shape k before total found s = ends_row s shape k before total found
-    braced_leads (more_of-Init i rest) q shape k before total found s =
-        slot_leads q shape k before total found s (slot s.structs shape k) (λ inner. init i inner found) (λ found. braced rest q shape (k + 1) found) refl (λ x. init_leads i x before found s)
-        (λ x zs t. braced_leads rest q shape (k + 1) (before ++ nums (shape_layout p.structs x)) total zs t)
+    braced_leads : {n : _} (is : Row_of-Init n) (q : Pos) (shape : Shape) (k : ℕ) (total : List Num) (found : List ℤ) (s : Typer) → Leads p (IsLeft s shape k total found) s (λ zs t. Fits total zs) (braced is q shape k found s)
+    braced_leads end_of-Init q shape k total found s = ends_row s shape k total found
+    braced_leads (more_of-Init i rest) q shape k total found s =
+        bind {Z = λ zs t. IsLeft t shape (k + 1) total zs} (slot_leads q shape k total found s (slot s.structs shape k) (λ inner. init i inner found) refl (λ x before. init_leads i x before found s)) (λ zs t l h w y. y)
+        (λ zs t. braced_leads rest q shape (k + 1) total zs t)
 
   -- an object from its first value on
   pub initial_leads : (i : Init) (shape : Shape) (s : Typer) → Leads p (RefersBelow (length s.structs.defs) shape) s (λ zs t. Fits (nums (shape_layout p.structs shape)) zs) (init i shape [] s)

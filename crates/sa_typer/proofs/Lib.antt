@@ -1,7 +1,7 @@
 pub mod ScopeLemmas
 pub mod FirstRows
 pub mod Loops
-pub mod ShapeLemmas
+pub mod FormLemmas
 pub mod ConstantLemmas
 pub mod OperandRows
 pub mod SizeLemmas
@@ -22,5 +22,6 @@ pub mod ExprLaws
 pub mod InitialLaws
 pub mod DeclarationLaws
 pub mod StmtLaws
+pub mod RefusalLaws
 pub mod UnitLaws
 pub mod AnswerLemmas

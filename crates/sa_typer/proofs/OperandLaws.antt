@@ -27,7 +27,6 @@ use Rattle.sa_typed.specs.declared.expr.Step.TheVariants as step
 use Rattle.sa_typed.specs.declared.program.Program.{Program}
 use Rattle.sa_typed.specs.declared.program.Var.{Var}
 use Rattle.sa_typed.specs.declared.shape.FieldDef.{FieldDef}
-use Rattle.sa_typed.specs.declared.shape.Shape.{Shape, Scalar, Struct, Array', end_of-Shape, more_of-Shape}
 use Rattle.sa_typed.specs.declared.shape.StructDef.{StructDef}
 use Rattle.sa_typer.specs.declared.constant.Value.{Value}
 use Rattle.sa_typer.specs.declared.constant.Value.TheVariants.{Varies, Unknown, Errs, Is}
@@ -45,7 +44,7 @@ use Rattle.sa_typer.specs.declared.types.Element.TheVariants as el
 use Rattle.sa_typer.specs.Constants.{working}
 use Rattle.sa_typer.specs.Values as values
 use Rattle.sa_typer.specs.Values.{literal_value, prefix_value, cast_value, miscast_value, operator_value, value_of, constant}
-use Rattle.sa_typer.specs.Operands.{stand_in, some_number, sort_of, is_object, known_value, expr_or, literal_number, literal, is_comparison, by_itself, with_threshold, beside, no_number, prefixed, cast_to, miscast, cast, operator_of, left_of, some_left, link, linked_numbers, linked_by, linked, chained}
+use Rattle.sa_typer.specs.Operands.{stand_in, some_number, sort_of, is_object, known_value, expr_or, literal_number, literal, is_comparison, by_itself, with_threshold, beside, no_object, no_number, prefixed, cast_to, miscast, cast, operator_of, left_of, some_left, link, linked_numbers, linked_by, linked, chained}
 use Rattle.sa_typer.specs.Typing.{Typed, Typing, Gives, and_then, pure, refused}
 use Rattle.sa_typer.proofs.RowLaws.{AllSteps, list_layout, all_fixed, steps_append, layout_append, fixed_append, read_typed, access_typed, access_fixed, at_typed, field_typed, at_fixed, field_fixed, AllLinks, after_links, all_constant, links_append, after_append, constant_append, number_typed, input_typed, prefix_typed, cast_typed, chain_typed, type_number, type_input, type_read, type_prefix, type_cast, type_chain, constant_number, constant_prefix, constant_cast, constant_chain}
 use Rattle.sa_typer.proofs.WalkLaws.{Ends, Later, Well, Leads, Any, gives, refuses, refusal, bind, next, from, so, either, unless}
@@ -339,6 +338,12 @@ module _ (p : Program) where
   chained_good l h = chain_of l l.sort h
 
   -- ---- values that have to be known
+  pub no_object_leads : {X : Type 0} (x : Operand) (s : Typer) → Leads p X s Any (no_object x s)
+  no_object_leads (a.Number x num v) s = gives (λ w h e. tt)
+  no_object_leads (a.Struct x k fixed q) s = refuses 5 q
+  no_object_leads (a.Array q) s = refuses 5 q
+  no_object_leads a.Unknown s = gives (λ w h e. tt)
+
   pub constant_leads : {X : Type 0} (q : Pos) (w : Value) (s : Typer) → Leads p X s Any (constant q w s)
   constant_leads q Varies s = refuses 18 q
   constant_leads q Errs s = refuses 18 q

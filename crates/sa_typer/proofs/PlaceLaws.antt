@@ -1,6 +1,7 @@
 -- What places promise of the program that the walk ends in.
-use Rattle.std.proofs.Common.{◌≡◌, ℕ, zero, suc, ◌+◌, ◌<◌, ◌≤◌, ℤ, pos, Bool, true, false, ◌&&◌, List, [], ◌∷◌, ◌++◌, length, refl, sym, ap, subst, ◌∙◌, arith, Option, Some, None}
+use Rattle.std.proofs.Common.{◌≡◌, ℕ, zero, suc, ◌+◌, ◌<◌, ◌≤◌, ℤ, pos, Bool, true, false, ◌&&◌, List, [], ◌∷◌, ◌++◌, length, drop, refl, sym, ap, subst, ◌∙◌, arith, Option, Some, None}
 use Rattle.std.proofs.lemmas.Bool.Decides.{nat_tests}
+use Rattle.std.proofs.lemmas.List.{drop-drop}
 use Rattle.std.specs.Prelude.{if◌then◌else◌, IsTrue, slice_get, reverse, not, ◌||◌, ◌==◌}
 use Rattle.sa_base.specs.declared.num.Num.{Num}
 use Rattle.sa_base.specs.declared.num.Num.TheVariants.{I32}
@@ -9,7 +10,7 @@ use Rattle.sa_syntax.specs.declared.decl.Name.{Name}
 use Rattle.sa_syntax.specs.declared.expr.PlaceBase.{PlaceBase}
 use Rattle.sa_syntax.specs.declared.expr.PlaceBase.TheVariants as base
 use Rattle.sa_typed.specs.Constants.{is_constant, is_fixed}
-use Rattle.sa_typed.specs.Layouts.{Layout, Layouts, leaf, row, fields, layout_with, layouts_with, nth_field, struct_layout, shape_layout, layout_of, var_layout}
+use Rattle.sa_typed.specs.Layouts.{Layout, Layouts, leaf, row, fields, rows, layout_with, layouts_with, nth_field, struct_layout, shape_layout, layout_of, var_layout}
 use Rattle.sa_typed.specs.WellTyped.{typed_step, into, num_of_input, IsTypedExpr, IsTypedStep, IsTypedAccess, IsFixedAccess, is_fixed_read}
 use Rattle.sa_typed.specs.declared.expr.Access.{Access}
 use Rattle.sa_typed.specs.declared.expr.Expr.{Expr}
@@ -19,9 +20,9 @@ use Rattle.sa_typed.specs.declared.expr.Step.TheVariants as step
 use Rattle.sa_typed.specs.declared.program.Program.{Program}
 use Rattle.sa_typed.specs.declared.program.Var.{Var}
 use Rattle.sa_typed.specs.declared.shape.FieldDef.{FieldDef}
-use Rattle.sa_typed.specs.declared.shape.Shape as shapes
-use Rattle.sa_typed.specs.declared.shape.Shape.{Shape, Scalar, Struct, Array', end_of-Shape, more_of-Shape}
-use Rattle.sa_typed.specs.declared.shape.Shape.TheVariants as sh
+use Rattle.sa_typed.specs.declared.shape.Plain.{Plain}
+use Rattle.sa_typed.specs.declared.shape.Plain.TheVariants.{Scalar, Struct}
+use Rattle.sa_typed.specs.declared.shape.Shape.{Shape}
 use Rattle.sa_typed.specs.declared.shape.StructDef.{StructDef}
 use Rattle.sa_typer.specs.declared.constant.Value.TheVariants.{Varies}
 use Rattle.sa_typer.specs.declared.operand.Operand.{Operand}
@@ -34,10 +35,13 @@ use Rattle.sa_typer.specs.declared.types.Named.{Named}
 use Rattle.sa_typer.specs.declared.types.Named.TheVariants as n
 use Rattle.sa_typer.specs.declared.typer.Typer.{Typer}
 use Rattle.sa_typer.specs.Scopes.{Scope, at, index_of, meaning_of}
+use Rattle.sa_typer.specs.declared.form.Form.{Form}
+use Rattle.sa_typer.specs.declared.form.Form.TheVariants as form
+use Rattle.sa_typer.specs.Forms.{form_by, form_of, inside, form_inside}
 use Rattle.sa_typer.specs.Structures.{Structs, fields_in, member_by, member_at, member_in, member_of}
 use Rattle.sa_typer.specs.Values as values
 use Rattle.sa_typer.specs.Operands.{sort_of, is_object, known_value, expr_or}
-use Rattle.sa_typer.specs.Places.{root_by, root_of, pointed_by, pointed, spot_at, variable_at, spot_of, begun, begins, lost, stepped, indexed_with, element, element_of, index, to_member, field_in, field_of, field, is_known, arrow, var_of, access_of, access, reading, operand_in, operand}
+use Rattle.sa_typer.specs.Places.{root_by, root_of, pointed_by, pointed, spot_at, variable_at, spot_of, begun, begins, lost, deeper, stepped, indexed_with, element_of, index, to_member, field_of, field, is_known, arrow, var_of, access_of, access, reading, operand_by, operand}
 use Rattle.sa_typer.specs.Typing.{Typed, Typing, Gives, and_then, pure, refused}
 use Rattle.sa_typer.proofs.StructLaws.{FieldsBelow, struct_known}
 use Rattle.sa_typer.proofs.RowLaws.{AllSteps, list_layout, all_fixed, steps_append, layout_append, fixed_append, read_typed, access_typed, access_fixed, at_typed, field_typed, at_fixed, field_fixed, input_typed, type_input, type_read}
@@ -45,9 +49,21 @@ use Rattle.sa_typer.proofs.WalkLaws.{Ends, Later, Well, IsThere, Leads, Any, giv
 use Rattle.sa_typer.proofs.OperandLaws.{IsGood, LeadsTo, GoodOperand, struct_in}
 
 -- ---- promises
+abbrev pub scalar_by : Form → Option Num
+scalar_by (form.Scalar num) = Some num
+scalar_by _ = None
+
 abbrev pub scalar_of : Shape → Option Num
-scalar_of (Scalar num) = Some num
-scalar_of _ = None
+scalar_of s = scalar_by (form_of s)
+
+-- what stands so many dimensions inside a shape that is known
+abbrev pub there : Option Shape → ℕ → Option Shape
+there None n = None
+there (Some s) n = Some (inside n s)
+
+-- arrays of such dimensions around that
+abbrev pub shaped : List ℕ → Plain → Shape
+shaped ns q = record { dims = ns; plain = q }
 
 -- steps into a variable, to what is made so
 pub record IsPlace (p : Program) (k : ℕ) (steps : List Step) (l : Layout) (fixed : Bool) : Type 0 where
@@ -69,7 +85,7 @@ IsAt p l (root.Input k num) None = ⊥
 IsAt p l (root.Input k num) (Some shape) = IsInput p k num shape l.locked
 
 abbrev pub GoodSpot : Program → Spot → Type 0
-GoodSpot p l = IsAt p l l.root l.shape
+GoodSpot p l = IsAt p l l.root (there l.shape l.depth)
 
 -- a variable or an input that is there
 abbrev pub IsRoot : Program → ℕ → Root → Type 0
@@ -156,12 +172,13 @@ module _ (p : Program) where
   }
 
   -- an object that isn't a number is in a variable
-  stepped_good : (l : Spot) (r : Root) (shape inner : Shape) (x : Step) (locked fixed : Bool) → scalar_of shape ≡ None → IsTypedStep p x →
-      typed_step (shape_layout p.structs shape) x ≡ Some (shape_layout p.structs inner) → (fixed ≡ true → (l.fixed ≡ true) × (is_fixed x ≡ true)) →
-      IsAt p l r (Some shape) → IsAt p (stepped x inner locked (record l { fixed = fixed })) r (Some inner)
-  stepped_good l root.Nothing shape inner x locked fixed n t s f h = h
-  stepped_good l (root.Variable k) shape inner x locked fixed n t s f h = one_further k l.steps (shape_layout p.structs shape) (shape_layout p.structs inner) l.fixed fixed x h t s f
-  stepped_good l (root.Input k num) shape inner x locked fixed n t s f h = let c = h.scalar in cc (n, c)
+  stepped_good : (l m : Spot) (r : Root) (shape inner : Shape) (x : Step) → m.steps ≡ l.steps ++ x ∷ [] → scalar_of shape ≡ None → IsTypedStep p x →
+      typed_step (shape_layout p.structs shape) x ≡ Some (shape_layout p.structs inner) → (m.fixed ≡ true → (l.fixed ≡ true) × (is_fixed x ≡ true)) →
+      IsAt p l r (Some shape) → IsAt p m r (Some inner)
+  stepped_good l m root.Nothing shape inner x e n t s f h = h
+  stepped_good l m (root.Variable k) shape inner x e n t s f h =
+      subst (λ (steps : List Step). IsPlace p k steps (shape_layout p.structs inner) m.fixed) (sym e) (one_further k l.steps (shape_layout p.structs shape) (shape_layout p.structs inner) l.fixed m.fixed x h t s f)
+  stepped_good l m (root.Input k num) shape inner x e n t s f h = let c = h.scalar in cc (n, c)
 
   pub record IsIndex (i : Operand) : Type 0 where
     pub typed : IsTypedExpr p (expr_or i)
@@ -184,20 +201,36 @@ module _ (p : Program) where
   known_shape l (root.Input k num) None h = absurd h
   known_shape l (root.Input k num) (Some shape) h = refl
 
-  element_leads : (q : Pos) (i : Operand) (l : Spot) (o : Option Shape) (s : Typer) → Leads p (IsIndex i × IsAt p l l.root o) s (λ l t. GoodSpot p l) (element_of q (expr_or i) o (indexed_with i l) s)
-  unfolding layout_with shapes.out-Shape denote.Hole.Carrier.out Rattle.sa_typed.specs.declared.shape.Shape.TheBlock.shown-the_row-Shape-0 denote.Hole.Carrier.shown
-  element_leads q i l None s = gives (λ w x e. let h = known_shape l l.root None x.1 in cc)
-  element_leads q i l (Some (Scalar num)) s = refuses 5 q
-  element_leads q i l (Some (Struct k)) s = refuses 5 q
-  element_leads q i l (Some (Array' m (more_of-Shape inner end_of-Shape) n)) s =
-      gives (λ w x e.
-      stepped_good l l.root (Array' m (more_of-Shape inner end_of-Shape) n) inner (step.At q n (expr_or i)) l.locked (l.fixed && values.is_constant (known_value i)) refl
-      (at_typed p q n (expr_or i) x.0.typed) (row_step n (shape_layout p.structs inner) q (expr_or i))
-      (λ f. (and_first l.fixed (values.is_constant (known_value i)) f, at_fixed q n (expr_or i) ∙ x.0.constant (and_rest l.fixed (values.is_constant (known_value i)) f))) x.1)
+  known_there : (l : Spot) (r : Root) (o : Option Shape) (d : ℕ) → IsAt p l r (there o d) → is_known o ≡ true
+  known_there l r None d h = known_shape l r None h
+  known_there l r (Some shape) d h = refl
+
+  array_step : (n : ℕ) (ns : List ℕ) (t : Plain) (q : Pos) (x : Expr) → typed_step (shape_layout p.structs (shaped (n ∷ ns) t)) (step.At q n x) ≡ Some (shape_layout p.structs (shaped ns t))
+  unfolding layout_with rows
+  array_step n ns t q x = row_step n (shape_layout p.structs (shaped ns t)) q x
+
+  -- given the dimensions that are left
+  element_by : (q : Pos) (i : Operand) (shape : Shape) (d : ℕ) (l : Spot) (ns : List ℕ) (t : Plain) (s : Typer) → drop d shape.dims ≡ ns → shape.plain ≡ t →
+      Leads p (IsIndex i × IsAt p l l.root (Some (shaped ns t))) s (λ l t. GoodSpot p l) (element_of q (expr_or i) (Some (form_by ns t)) (indexed_with i (record l { shape = Some shape; depth = d })) s)
+  element_by q i shape d l [] (Scalar num) s e g = refuses 5 q
+  element_by q i shape d l [] (Struct k) s e g = refuses 5 q
+  element_by q i shape d l (n ∷ ns) t s e g =
+      let x = step.At q n (expr_or i) in
+      let m = deeper x (indexed_with i (record l { shape = Some shape; depth = d })) in
+      let rest : inside (d + 1) shape ≡ shaped ns t = ap (λ (js : List ℕ). shaped js shape.plain) (sym (drop-drop 1 d shape.dims) ∙ ap (drop 1) e) ∙ ap (shaped ns) g in
+      gives (λ w h k.
+      subst (λ (o : Shape). IsAt p m l.root (Some o)) (sym rest)
+      (stepped_good l m l.root (shaped (n ∷ ns) t) (shaped ns t) x refl refl (at_typed p q n (expr_or i) h.0.typed) (array_step n ns t q (expr_or i))
+      (λ f. (and_first l.fixed (values.is_constant (known_value i)) f, at_fixed q n (expr_or i) ∙ h.0.constant (and_rest l.fixed (values.is_constant (known_value i)) f))) h.1))
+
+  element_leads : (q : Pos) (i : Operand) (o : Option Shape) (d : ℕ) (l : Spot) (s : Typer) →
+      Leads p (IsIndex i × IsAt p l l.root (there o d)) s (λ l t. GoodSpot p l) (element_of q (expr_or i) (form_inside o d) (indexed_with i (record l { shape = o; depth = d })) s)
+  element_leads q i None d l s = gives (λ w x e. let h = known_shape l l.root None x.1 in cc)
+  element_leads q i (Some shape) d l s = element_by q i shape d l (drop d shape.dims) shape.plain s refl refl
 
   pub index_leads : (q : Pos) (i : Operand) (l : Spot) (s : Typer) → Leads p (GoodOperand p i × GoodSpot p l) s (λ l t. GoodSpot p l) (index q i l s)
   unfolding index
-  index_leads q i l s = next (unless (is_object (sort_of i)) 5 q) (λ a t. from (λ h. (index_good i h.0.0 h.1, h.0.1)) (element_leads q i l l.shape t))
+  index_leads q i l s = next (unless (is_object (sort_of i)) 5 q) (λ a t. from (λ h. (index_good i h.0.0 h.1, h.0.1)) (element_leads q i l.shape l.depth l t))
 
   -- ---- fields
   nth_known : (f : ℕ → Layout) (fs : List FieldDef) (i : ℕ) (d : FieldDef) → slice_get fs i ≡ Some d → nth_field (layouts_with f fs) i ≡ Some (layout_with f d.shape)
@@ -248,44 +281,55 @@ module _ (p : Program) where
       ap (λ (l : Layout). typed_step l (step.Field m.number)) (struct_known p.structs k h.def (e.structs k h.def h.there) (w.defs k h.def h.there))
       ∙ fields_step (layouts_with g h.def.fields) m.number ∙ nth_known g h.def.fields m.number h.field h.nth ∙ ap (λ (x : Shape). Some (layout_with g x)) (sym h.shape)
 
-  to_member_leads : (q : Pos) (k : ℕ) (l : Spot) (s : Typer) (o : Option Member) → ((m : Member) → o ≡ Some m → IsMember s.structs.defs k m) → Leads p (IsAt p l l.root (Some (Struct k))) s (λ l t. GoodSpot p l) (to_member q o l s)
-  unfolding layout_with
+  to_member_leads : (q : Pos) (k : ℕ) (l : Spot) (s : Typer) (o : Option Member) → ((m : Member) → o ≡ Some m → IsMember s.structs.defs k m) →
+      Leads p (IsAt p l l.root (Some (shaped [] (Struct k)))) s (λ l t. GoodSpot p l) (to_member q o l s)
+  unfolding layout_with rows
   to_member_leads q k l s None h = refuses 4 q
   to_member_leads q k l s (Some m) h =
       gives (λ w x e.
-      stepped_good l l.root (Struct k) m.shape (step.Field m.number) (l.locked || m.constant) l.fixed refl (field_typed p m.number) (member_step s k m w e (h m refl))
-      (λ f. (f, field_fixed m.number)) x)
+      stepped_good l (stepped (step.Field m.number) m.shape (l.locked || m.constant) l) l.root (shaped [] (Struct k)) m.shape (step.Field m.number) refl refl (field_typed p m.number)
+      (member_step s k m w e (h m refl)) (λ f. (f, field_fixed m.number)) x)
 
-  field_in_leads : (q : Pos) (x : Name) (l : Spot) (o : Option Shape) (s : Typer) → Leads p (IsAt p l l.root o) s (λ l t. GoodSpot p l) (field_of q x o l s)
-  unfolding shapes.out-Shape denote.Hole.Carrier.out Rattle.sa_typed.specs.declared.shape.Shape.TheBlock.shown-the_row-Shape-0 denote.Hole.Carrier.shown
-  field_in_leads q x l None s = gives (λ w h e. let k = known_shape l l.root None h in cc)
-  field_in_leads q x l (Some (Scalar num)) s = refuses 5 q
-  field_in_leads q x l (Some (Struct k)) s = to_member_leads x.pos k l s (member_of s.structs k x.text) (λ m e. member_known s.structs k x.text m e)
-  field_in_leads q x l (Some (Array' m (more_of-Shape inner end_of-Shape) n)) s = refuses 5 q
+  field_by : (q : Pos) (x : Name) (l : Spot) (ns : List ℕ) (t : Plain) (s : Typer) → Leads p (IsAt p l l.root (Some (shaped ns t))) s (λ l t. GoodSpot p l) (field_of q x (Some (form_by ns t)) l s)
+  field_by q x l [] (Scalar num) s = refuses 5 q
+  field_by q x l [] (Struct k) s = to_member_leads x.pos k l s (member_of s.structs k x.text) (λ m e. member_known s.structs k x.text m e)
+  field_by q x l (n ∷ ns) t s = refuses 5 q
+
+  field_in_leads : (q : Pos) (x : Name) (l : Spot) (o : Option Shape) (d : ℕ) (s : Typer) → Leads p (IsAt p l l.root (there o d)) s (λ l t. GoodSpot p l) (field_of q x (form_inside o d) l s)
+  field_in_leads q x l None d s = gives (λ w h e. let k = known_shape l l.root None h in cc)
+  field_in_leads q x l (Some shape) d s = field_by q x l (drop d shape.dims) shape.plain s
 
   pub field_leads : (q : Pos) (x : Name) (l : Spot) (s : Typer) → Leads p (GoodSpot p l) s (λ l t. GoodSpot p l) (field q x l s)
   unfolding field
-  field_leads q x l s = field_in_leads q x l l.shape s
+  field_leads q x l s = field_in_leads q x l l.shape l.depth s
 
   pub arrow_leads : (q : Pos) (l : Spot) (s : Typer) → Leads p (GoodSpot p l) s (λ l t. GoodSpot p l) (arrow q l s)
   unfolding arrow
-  arrow_leads q l s = next (unless (is_known l.shape) 5 q) (λ a t. gives (λ w x e. let h = known_shape l l.root l.shape x.0 in let g = x.1 in cc))
+  arrow_leads q l s = next (unless (is_known l.shape) 5 q) (λ a t. gives (λ w x e. let h = known_there l l.root l.shape l.depth x.0 in let g = x.1 in cc))
 
   -- ---- the whole place
   access_good : (k : ℕ) (steps : List Step) (l : Layout) (fixed : Bool) → IsPlace p k steps l fixed → LeadsTo p l fixed (access_of (root.Variable k) steps)
   access_good k steps l fixed h = record { typed = access_typed p k steps l h.typed h.leads; constant = λ f. access_fixed k steps (h.constant f) }
 
-  operand_at : (l : Spot) (r : Root) (o : Option Shape) (z : Option Shape) → l.root ≡ r → l.shape ≡ z → z ≡ o → IsAt p l r o → GoodOperand p (operand (record l { root = r; shape = o }))
-  unfolding operand layout_with shapes.out-Shape denote.Hole.Carrier.out Rattle.sa_typed.specs.declared.shape.Shape.TheBlock.shown-the_row-Shape-0 denote.Hole.Carrier.shown
-  operand_at l root.Nothing o z i j k h = absurd h
-  operand_at l (root.Variable k) None z i j g h = absurd h
-  operand_at l (root.Variable k) (Some (Scalar num)) z i j g h = record { typed = read_typed p k l.steps num h.typed h.leads; is = type_read (access_of (root.Variable k) l.steps) num; constant = λ c. cc }
-  operand_at l (root.Variable k) (Some (Struct j)) z i e g h = access_good k l.steps (struct_in p j) l.fixed h
-  operand_at l (root.Variable k) (Some (Array' m (more_of-Shape inner end_of-Shape) n)) z i j g h = tt
-  operand_at l (root.Input k num) None z i j g h = absurd h
-  operand_at l (root.Input k num) (Some (Scalar m)) z i j g h = record { typed = input_typed p k m (h.there ∙ sym h.scalar); is = type_input k m; constant = λ c. cc }
-  operand_at l (root.Input k num) (Some (Struct j)) z i e g h = let c = h.scalar in cc
-  operand_at l (root.Input k num) (Some (Array' m (more_of-Shape inner end_of-Shape) n)) z i j g h = let c = h.scalar in cc
+  operand_by_leads : (l : Spot) (r : Root) (ns : List ℕ) (t : Plain) → IsAt p l r (Some (shaped ns t)) → GoodOperand p (operand_by (record l { root = r }) (Some (form_by ns t)))
+  unfolding layout_with rows
+  operand_by_leads l root.Nothing ns t h = absurd h
+  operand_by_leads l (root.Variable k) [] (Scalar num) h = record { typed = read_typed p k l.steps num h.typed h.leads; is = type_read (access_of (root.Variable k) l.steps) num; constant = λ c. cc }
+  operand_by_leads l (root.Variable k) [] (Struct j) h = access_good k l.steps (struct_in p j) l.fixed h
+  operand_by_leads l (root.Variable k) (n ∷ ns) t h = tt
+  operand_by_leads l (root.Input k num) [] (Scalar m) h = record { typed = input_typed p k m (h.there ∙ sym h.scalar); is = type_input k m; constant = λ c. cc }
+  operand_by_leads l (root.Input k num) [] (Struct j) h = let c = h.scalar in cc
+  operand_by_leads l (root.Input k num) (n ∷ ns) t h = let c = h.scalar in cc
+
+  none_there : (l : Spot) (r : Root) → IsAt p l r None → ⊥
+  none_there l root.Nothing h = h
+  none_there l (root.Variable k) h = h
+  none_there l (root.Input k num) h = h
+
+  operand_at : (l : Spot) (r : Root) (o : Option Shape) (d : ℕ) → IsAt p l r (there o d) → GoodOperand p (operand_by (record l { root = r }) (form_inside o d))
+  operand_at l r None d h = absurd (none_there l r h)
+  operand_at l r (Some shape) d h = operand_by_leads l r (drop d shape.dims) shape.plain h
 
   pub operand_good : (l : Spot) → GoodSpot p l → GoodOperand p (operand l)
-  operand_good l h = operand_at l l.root l.shape l.shape refl refl refl h
+  unfolding operand
+  operand_good l h = operand_at l l.root l.shape l.depth h

@@ -5,13 +5,10 @@ use Rattle.std.proofs.Math.Nat.{suc-mul, zero-mul}
 use Rattle.std.proofs.lemmas.Bool.{cases_lt, true≢false}
 use Rattle.std.specs.Prelude.{Result, Ok, Err, OnOk}
 use Rattle.std.specs.Result.{is_err}
-use Rattle.sa_base.specs.declared.num.Num.{Num}
 use Rattle.sa_typed.specs.declared.program.Var.{Var}
 use Rattle.sa_typed.specs.declared.shape.FieldDef.{FieldDef}
-use Rattle.sa_typed.specs.declared.shape.Shape.{Shape}
-use Rattle.sa_typed.specs.declared.shape.Shape.TheVariants as sh
 use Rattle.sa_typed.specs.declared.shape.StructDef.{StructDef}
-use Rattle.sa_typer.specs.Structures.{times, size_by, sum_by, field_shape, field_shapes, var_shape, sizes_from, sizes_of, kept, AreCounted}
+use Rattle.sa_typer.specs.Structures.{times, extent, size_by, sum_by, field_shape, field_shapes, var_shape, sizes_from, sizes_of, kept, AreCounted}
 
 -- ---- the greatest count
 pub kept-plus : (a b : ℕ) → kept (kept a + b) ≡ kept (a + b)
@@ -43,20 +40,30 @@ get-kept [] i = refl
 get-kept (n ∷ ns) zero = refl
 get-kept (n ∷ ns) (suc i) = get-kept ns i
 
--- ---- shapes
-pub size_by-Scalar : (starred : Bool) (sizes : List ℕ) (num : Num) → size_by starred sizes (sh.Scalar num) ≡ 1
-unfolding size_by
-size_by-Scalar starred sizes num = refl
+pub ruleset plain_rows = (get-kept)
 
-pub size_by-Struct : (starred : Bool) (sizes : List ℕ) (k : ℕ) → size_by starred sizes (sh.Struct k) ≡ get_or sizes k 0
-unfolding size_by
-size_by-Struct starred sizes k = refl
+-- ---- dimensions, from the innermost one outwards
+pub extent-start : (b : Bool) (ns : List ℕ) (size : ℕ) → extent b (drop (length ns - 0) ns) size ≡ size
+unfolding extent
+extent-start b ns size = ap (λ (ms : List ℕ). extent b ms size) (drop_all (length ns - 0) ns (omega arith))
 
-pub size_by-Array : (starred : Bool) (sizes : List ℕ) (element : Shape) (n : ℕ) → size_by starred sizes (sh.Array element n) ≡ times starred n * size_by starred sizes element
-unfolding size_by Rattle.sa_typed.specs.declared.shape.Shape.TheBlock.hidden-the_row-Shape-0 denote.Hole.Carrier.hidden
-size_by-Array starred sizes element n = refl
+pub extent-next : (b : Bool) (ns : List ℕ) (k d size : ℕ) → k < length ns →
+    extent b (drop (length ns - (k + 1)) ns) size ≡ times b (get_or ns (length ns - 1 - k) d) * extent b (drop (length ns - k) ns) size
+unfolding extent
+extent-next b ns k d size h =
+    let at : length ns - (k + 1) ≡ length ns - 1 - k = omega arith in
+    let after : length ns - 1 - k + 1 ≡ length ns - k = omega arith in
+    rw (at, drop_more ns (length ns - 1 - k) d (omega arith), after) refl
 
-pub ruleset size_rows = (size_by-Scalar, size_by-Struct, size_by-Array, kept-times, get-kept)
+pub extent-all : (b : Bool) (ns : List ℕ) (k size : ℕ) → length ns ≤ k → extent b (drop (length ns - k) ns) size ≡ extent b ns size
+extent-all b ns k size h = let z : length ns - k ≡ 0 = omega arith in rw z refl
+
+-- one dimension more
+pub kept_next : (b : Bool) (ns : List ℕ) (k d size exact next one : ℕ) → k < length ns → one ≡ times b (get_or ns (length ns - 1 - k) d) → next ≡ kept (one * size) →
+    size ≡ kept (extent b (drop (length ns - k) ns) exact) → next ≡ kept (extent b (drop (length ns - (k + 1)) ns) exact)
+kept_next b ns k d size exact next one h o n s =
+    n ∙ ap (λ (m : ℕ). kept (m * size)) o ∙ ap (λ (m : ℕ). kept (times b (get_or ns (length ns - 1 - k) d) * m)) s
+    ∙ kept-times (times b (get_or ns (length ns - 1 - k) d)) (extent b (drop (length ns - k) ns) exact) ∙ ap kept (sym (extent-next b ns k d exact h))
 
 pub ruleset sums = (kept-plus, kept-plus_right)
 

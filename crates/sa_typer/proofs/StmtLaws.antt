@@ -1,5 +1,5 @@
 -- Statements of the program that the walk ends in are typed.
-use Rattle.std.proofs.Common.{◌≡◌, ℕ, zero, suc, ◌+◌, ◌≤◌, Bool, true, false, ◌&&◌, List, [], ◌∷◌, ◌++◌, length, take, refl, sym, ap, subst, ◌∙◌, arith, Option, Some, None}
+use Rattle.std.proofs.Common.{◌≡◌, ℕ, zero, suc, ◌+◌, ◌≤◌, Bool, true, false, ◌&&◌, List, [], ◌∷◌, ◌++◌, length, take, drop, refl, sym, ap, subst, ◌∙◌, arith, Option, Some, None}
 use Rattle.std.proofs.lemmas.Bool.Decides.{nat_tests}
 use Rattle.std.specs.Prelude.{if◌then◌else◌, slice_get, not, ◌==◌}
 use Rattle.sa_base.specs.declared.num.Num.{Num}
@@ -13,14 +13,15 @@ use Rattle.sa_syntax.specs.declared.stmt.Simple as from_tree
 use Rattle.sa_syntax.specs.declared.stmt.Simple.TheVariants as x
 use Rattle.sa_syntax.specs.declared.stmt.Stmt as stmts
 use Rattle.sa_syntax.specs.declared.stmt.Stmt.{Row_of-BlockItem, end_of-BlockItem, more_of-BlockItem}
-use Rattle.sa_typed.specs.Layouts.{Layout, leaf, layout_with, shape_layout}
+use Rattle.sa_typed.specs.Layouts.{Layout, leaf, rows, layout_with, shape_layout}
 use Rattle.sa_typed.specs.WellTyped.{type_of, IsLink, IsTypedExpr, IsTypedAccess, IsTypedSimple, IsTypedStmt, IsFixedAccess}
 use Rattle.sa_typed.specs.declared.expr.Access.{Access}
 use Rattle.sa_typed.specs.declared.expr.Expr.{Expr}
 use Rattle.sa_typed.specs.declared.expr.Operator.{Operator}
 use Rattle.sa_typed.specs.declared.program.Program.{Program}
-use Rattle.sa_typed.specs.declared.shape.Shape as shapes
-use Rattle.sa_typed.specs.declared.shape.Shape.{Shape, Scalar, Struct, Array', end_of-Shape, more_of-Shape}
+use Rattle.sa_typed.specs.declared.shape.Plain.{Plain}
+use Rattle.sa_typed.specs.declared.shape.Plain.TheVariants.{Scalar, Struct}
+use Rattle.sa_typed.specs.declared.shape.Shape.{Shape}
 use Rattle.sa_typed.specs.declared.stmt.Simple.{Simple}
 use Rattle.sa_typed.specs.declared.stmt.Simple.TheVariants as simply
 use Rattle.sa_typed.specs.declared.stmt.Stmt.{Stmt}
@@ -34,17 +35,17 @@ use Rattle.sa_typer.specs.declared.operand.Spot.{Spot}
 use Rattle.sa_typer.specs.declared.typer.Typer.{Typer}
 use Rattle.sa_typer.specs.First.{place_pos, item_pos}
 use Rattle.sa_typer.specs.Constants.{working}
-use Rattle.sa_typer.specs.Operands.{sort_of}
+use Rattle.sa_typer.specs.Forms.{form_by, form_inside}
 use Rattle.sa_typer.specs.Places.{access, access_of}
 use Rattle.sa_typer.specs.Expressions.{expr}
 use Rattle.sa_typer.specs.Declarations.{local}
 use Rattle.sa_typer.specs.Scopes.{Scope, oldest, count}
-use Rattle.sa_typer.specs.Statements.{mismatched, to_number, to_struct, to_array, to_shape, to_option, assigned, compound_of, turn_of, one, shape_sort, compounded_number, compounded_by, compounded, left_side, simple, left_scope, scoped, directive, stmt, items, item}
+use Rattle.sa_typer.specs.Statements.{mismatched, to_number, to_struct, to_form, assigned, compound_of, turn_of, one, sort_by, compounded_number, compounded_by, compounded, left_side, simple, left_scope, scoped, directive, stmt, items, item}
 use Rattle.sa_typer.specs.Typing.{Typed, Typing, Gives, and_then, pure, each}
 use Rattle.sa_typer.proofs.RowLaws.{AllStmts, stmts_append, access_typed, access_fixed, simple_typed, block_typed}
 use Rattle.sa_typer.proofs.WalkLaws.{Ends, Later, Well, Leads, Any, gives, refuses, refusal, bind, next, from, free, so, unless}
 use Rattle.sa_typer.proofs.OperandLaws.{IsGood, LeadsTo, GoodOperand, struct_in, one_good, works}
-use Rattle.sa_typer.proofs.PlaceLaws.{IsAt, GoodSpot}
+use Rattle.sa_typer.proofs.PlaceLaws.{IsAt, GoodSpot, there, shaped}
 use Rattle.sa_typer.proofs.ExprLaws.{expr_leads, spot_leads}
 
 pub taken : {A : Type 0} (n i : ℕ) (xs : List A) (x : A) → slice_get (take n xs) i ≡ Some x → slice_get xs i ≡ Some x
@@ -113,22 +114,19 @@ module _ (p : Program) where
   struct_leads l k q (a.Array r) s = refuses 5 q
   struct_leads l k q a.Unknown s = gives (λ w h e. absurd h.1)
 
-  array_leads : {Y : Type 0} (l : Spot) (q : Pos) (i : Operand) (s : Typer) → Leads p (Y × GoodOperand p i) s (λ y t. IsTypedSimple p y) (to_array (access l) q (sort_of i) s)
-  array_leads l q (a.Number e m v) s = refuses 5 q
-  array_leads l q (a.Struct y k fixed r) s = refuses 5 q
-  array_leads l q (a.Array r) s = refuses 5 q
-  array_leads l q a.Unknown s = gives (λ w h e. absurd h.1)
+  form_leads : (l : Spot) (q : Pos) (i : Operand) (ns : List ℕ) (t : Plain) (s : Typer) → Leads p (Leading l (Some (shaped ns t)) × GoodOperand p i) s (λ y t. IsTypedSimple p y) (to_form l (Some (form_by ns t)) q i s)
+  unfolding layout_with rows
+  form_leads l q i [] (Scalar num) s = number_leads l num q i s
+  form_leads l q i [] (Struct k) s = struct_leads l k q i s
+  form_leads l q i (n ∷ ns) t s = refuses 5 q
 
-  option_leads : (l : Spot) (q : Pos) (i : Operand) (o : Option Shape) (s : Typer) → Leads p (Leading l o × GoodOperand p i) s (λ y t. IsTypedSimple p y) (to_option l o q i s)
-  unfolding layout_with shapes.out-Shape denote.Hole.Carrier.out Rattle.sa_typed.specs.declared.shape.Shape.TheBlock.shown-the_row-Shape-0 denote.Hole.Carrier.shown
-  option_leads l q i None s = gives (λ w h e. absurd h.0)
-  option_leads l q i (Some (Scalar num)) s = number_leads l num q i s
-  option_leads l q i (Some (Struct k)) s = struct_leads l k q i s
-  option_leads l q i (Some (Array' n (more_of-Shape inner end_of-Shape) m)) s = array_leads l q i s
+  option_leads : (l : Spot) (q : Pos) (i : Operand) (o : Option Shape) (d : ℕ) (s : Typer) → Leads p (Leading l (there o d) × GoodOperand p i) s (λ y t. IsTypedSimple p y) (to_form l (form_inside o d) q i s)
+  option_leads l q i None d s = gives (λ w h e. absurd h.0)
+  option_leads l q i (Some shape) d s = form_leads l q i (drop d shape.dims) shape.plain s
 
-  assigned_leads : (l : Spot) (q : Pos) (i : Operand) (s : Typer) → Leads p (Leading l l.shape × GoodOperand p i) s (λ y t. IsTypedSimple p y) (assigned l q i s)
+  assigned_leads : (l : Spot) (q : Pos) (i : Operand) (s : Typer) → Leads p (Leading l (there l.shape l.depth) × GoodOperand p i) s (λ y t. IsTypedSimple p y) (assigned l q i s)
   unfolding assigned
-  assigned_leads l q i s = option_leads l q i l.shape s
+  assigned_leads l q i s = option_leads l q i l.shape l.depth s
 
   -- ---- compound assignments
   link_there : (o : Operator) (to m : Num) (e : Expr) → type_of e ≡ m → IsLink o to (working o to m) (type_of e)
@@ -152,25 +150,30 @@ module _ (p : Program) where
   unknown_leads l o q (a.Array r) s = refuses 5 q
   unknown_leads l o q a.Unknown s = gives (λ w h e. absurd h.0)
 
-  sort_leads : (l : Spot) (o : Operator) (q : Pos) (i : Operand) (z : Option Shape) (s : Typer) → Leads p (Leading l z × GoodOperand p i) s (λ y t. IsTypedSimple p y) (compounded_by (access l) o q (shape_sort z) i s)
-  unfolding layout_with shapes.out-Shape denote.Hole.Carrier.out Rattle.sa_typed.specs.declared.shape.Shape.TheBlock.shown-the_row-Shape-0 denote.Hole.Carrier.shown
-  sort_leads l o q i None s = unknown_leads l o q i s
-  sort_leads l o q i (Some (Scalar to)) s = numbers_leads l to o q i s
-  sort_leads l o q i (Some (Struct k)) s = object_leads l o q i s
-  sort_leads l o q i (Some (Array' n (more_of-Shape inner end_of-Shape) m)) s = object_leads l o q i s
+  by_sort : (l : Spot) (o : Operator) (q : Pos) (i : Operand) (ns : List ℕ) (t : Plain) (s : Typer) →
+      Leads p (Leading l (Some (shaped ns t)) × GoodOperand p i) s (λ y t. IsTypedSimple p y) (compounded_by (access l) o q (sort_by (Some (form_by ns t))) i s)
+  unfolding layout_with rows
+  by_sort l o q i [] (Scalar to) s = numbers_leads l to o q i s
+  by_sort l o q i [] (Struct k) s = object_leads l o q i s
+  by_sort l o q i (n ∷ ns) t s = object_leads l o q i s
 
-  compounded_leads : (l : Spot) (o : Operator) (q : Pos) (i : Operand) (s : Typer) → Leads p (Leading l l.shape × GoodOperand p i) s (λ y t. IsTypedSimple p y) (compounded l o q i s)
+  sort_leads : (l : Spot) (o : Operator) (q : Pos) (i : Operand) (z : Option Shape) (d : ℕ) (s : Typer) →
+      Leads p (Leading l (there z d) × GoodOperand p i) s (λ y t. IsTypedSimple p y) (compounded_by (access l) o q (sort_by (form_inside z d)) i s)
+  sort_leads l o q i None d s = unknown_leads l o q i s
+  sort_leads l o q i (Some shape) d s = by_sort l o q i (drop d shape.dims) shape.plain s
+
+  compounded_leads : (l : Spot) (o : Operator) (q : Pos) (i : Operand) (s : Typer) → Leads p (Leading l (there l.shape l.depth) × GoodOperand p i) s (λ y t. IsTypedSimple p y) (compounded l o q i s)
   unfolding compounded
-  compounded_leads l o q i s = sort_leads l o q i l.shape s
+  compounded_leads l o q i s = sort_leads l o q i l.shape l.depth s
 
   -- ---- simple statements
-  left_leads : {X : Type 0} (y : Place) (s : Typer) → Leads p X s (λ l t. Leading l l.shape) (left_side y s)
-  left_leads y s = next (spot_leads p y s) (λ l t. next (unless l.locked 6 (place_pos y)) (λ u v. gives (λ w h e. leading l l.shape h.0.1 h.1)))
+  left_leads : {X : Type 0} (y : Place) (s : Typer) → Leads p X s (λ l t. Leading l (there l.shape l.depth)) (left_side y s)
+  left_leads y s = next (spot_leads p y s) (λ l t. next (unless l.locked 6 (place_pos y)) (λ u v. gives (λ w h e. leading l (there l.shape l.depth) h.0.1 h.1)))
 
   right_leads : {X : Type 0} (i : _) (s : Typer) → Leads p X s (λ y t. GoodOperand p y) (expr i s)
   right_leads i s = free (expr_leads p i s)
 
-  by_one : (l : Spot) (o : Operator) (q : Pos) (s : Typer) → Leads p (Leading l l.shape) s (λ y t. IsTypedSimple p y) (compounded l o q one s)
+  by_one : (l : Spot) (o : Operator) (q : Pos) (s : Typer) → Leads p (Leading l (there l.shape l.depth)) s (λ y t. IsTypedSimple p y) (compounded l o q one s)
   by_one l o q s = from (λ h. (h, one_good p)) (compounded_leads l o q one s)
 
   simple_leads : {X : Type 0} (y : from_tree.Simple) (s : Typer) → Leads p X s (λ y t. IsTypedSimple p y) (simple y s)

@@ -8,11 +8,13 @@ use Rattle.std.specs.Prelude.{if◌then◌else◌, slice_get, reverse, ◌==◌,
 use Rattle.sa_base.specs.declared.num.Num.{Num}
 use Rattle.sa_typed.specs.Cells.{Step, Inner, inner_cells, field_cells, all_behind, each_behind, one, all, of}
 use Rattle.sa_typed.specs.Layouts as layouts
-use Rattle.sa_typed.specs.Layouts.{Layout, Layouts, leaf, row, fields, no_field, field, layout_with, layouts_with, struct_layout, shape_layout, nums, all_nums}
+use Rattle.sa_typed.specs.Layouts.{Layout, Layouts, leaf, row, fields, no_field, field, rows, plain_layout, layout_with, layouts_with, struct_layout, shape_layout, nums, all_nums}
 use Rattle.sa_typed.specs.declared.shape.FieldDef.{FieldDef}
-use Rattle.sa_typed.specs.declared.shape.Shape.{Shape, Scalar, Struct, Array', end_of-Shape, more_of-Shape}
+use Rattle.sa_typed.specs.declared.shape.Plain.{Plain}
+use Rattle.sa_typed.specs.declared.shape.Plain.TheVariants.{Scalar, Struct}
+use Rattle.sa_typed.specs.declared.shape.Shape.{Shape}
 use Rattle.sa_typed.specs.declared.shape.StructDef.{StructDef}
-use Rattle.sa_typer.specs.Structures.{times, size_by, sum_by, sizes_from, sizes_of, field_shape, field_shapes}
+use Rattle.sa_typer.specs.Structures.{times, extent, plain_size, size_by, sum_by, sizes_from, sizes_of, field_shape, field_shapes}
 
 -- ---- lists
 -- what stands in the first list stands at the same place in the second
@@ -35,10 +37,12 @@ slice_cases (z ∷ xs) x zero y h = inl h
 slice_cases (z ∷ xs) x (suc k) y h = elim (slice_cases xs x k y h) [ inl g ↦ inl g | inr g ↦ inr (ap suc g.0, g.1) ]
 
 -- ---- shapes that refer to older structures alone
-unfoldable pub RefersBelow : ℕ → Shape → Type 0
-RefersBelow n (Scalar num) = Unit {0}
-RefersBelow n (Struct k) = k < n
-RefersBelow n (Array' m (more_of-Shape s end_of-Shape) dim) = RefersBelow n s
+abbrev pub PlainBelow : ℕ → Plain → Type 0
+PlainBelow n (Scalar num) = Unit {0}
+PlainBelow n (Struct k) = k < n
+
+abbrev pub RefersBelow : ℕ → Shape → Type 0
+RefersBelow n s = PlainBelow n s.plain
 
 unfoldable pub FieldsBelow : ℕ → List FieldDef → Type 0
 FieldsBelow n [] = Unit {0}
@@ -47,11 +51,12 @@ FieldsBelow n (f ∷ fs) = RefersBelow n f.shape × FieldsBelow n fs
 abbrev pub DefsBelow : List StructDef → Type 0
 DefsBelow ds = (k : ℕ) (d : StructDef) → slice_get ds k ≡ Some d → FieldsBelow k d.fields
 
+plain_more : (n m : ℕ) (q : Plain) → n ≤ m → PlainBelow n q → PlainBelow m q
+plain_more n m (Scalar num) le h = tt
+plain_more n m (Struct k) le h = omega arith
+
 pub refers_more : (n m : ℕ) (s : Shape) → n ≤ m → RefersBelow n s → RefersBelow m s
-unfolding RefersBelow
-refers_more n m (Scalar num) le h = tt
-refers_more n m (Struct k) le h = omega arith
-refers_more n m (Array' j (more_of-Shape s end_of-Shape) dim) le h = refers_more n m s le h
+refers_more n m s le h = plain_more n m s.plain le h
 
 pub fields_more : (n m : ℕ) (fs : List FieldDef) → n ≤ m → FieldsBelow n fs → FieldsBelow m fs
 unfolding FieldsBelow
@@ -64,11 +69,13 @@ fields_append n [] f h k = (k, tt)
 fields_append n (g ∷ fs) f h k = (h.0, fields_append n fs f h.1 k)
 
 -- ---- what a structure is made of
+same_plain : (f g : ℕ → Layout) (n : ℕ) (q : Plain) → ((k : ℕ) → k < n → f k ≡ g k) → PlainBelow n q → plain_layout f q ≡ plain_layout g q
+same_plain f g n (Scalar num) e h = refl
+same_plain f g n (Struct k) e h = e k h
+
 same_layout : (f g : ℕ → Layout) (n : ℕ) (s : Shape) → ((k : ℕ) → k < n → f k ≡ g k) → RefersBelow n s → layout_with f s ≡ layout_with g s
-unfolding layout_with RefersBelow
-same_layout f g n (Scalar num) e h = refl
-same_layout f g n (Struct k) e h = e k h
-same_layout f g n (Array' j (more_of-Shape s end_of-Shape) dim) e h = ap (row dim) (same_layout f g n s e h)
+unfolding layout_with
+same_layout f g n s e h = ap (rows s.dims) (same_plain f g n s.plain e h)
 
 same_fields : (f g : ℕ → Layout) (n : ℕ) (fs : List FieldDef) → ((k : ℕ) → k < n → f k ≡ g k) → FieldsBelow n fs → layouts_with f fs ≡ layouts_with g fs
 unfolding layouts_with FieldsBelow
@@ -184,11 +191,19 @@ pub record AreSized (b : Bool) (structs : List StructDef) (n : ℕ) (sizes : Lis
   pub each : (k : ℕ) → k < n → get_or sizes k 0 ≡ weight b (struct_layout (reverse structs) k)
 
 module _ (b : Bool) (structs : List StructDef) where
+  extent_weight : (ns : List ℕ) (l : Layout) → extent b ns (weight b l) ≡ weight b (rows ns l)
+  unfolding extent rows weight
+  extent_weight [] l = refl
+  extent_weight (n ∷ ns) l = ap (λ (m : ℕ). times b n * m) (extent_weight ns l)
+
+  plain_weight : (n : ℕ) (sizes : List ℕ) (q : Plain) → AreSized b structs n sizes → PlainBelow n q → plain_size sizes q ≡ weight b (plain_layout (λ k. struct_layout (reverse structs) k) q)
+  unfolding weight
+  plain_weight n sizes (Scalar num) z h = refl
+  plain_weight n sizes (Struct k) z h = z.each k h
+
   pub size_weight : (n : ℕ) (sizes : List ℕ) (s : Shape) → AreSized b structs n sizes → RefersBelow n s → size_by b sizes s ≡ weight b (shape_layout structs s)
-  unfolding size_by layout_with RefersBelow weight
-  size_weight n sizes (Scalar num) z h = refl
-  size_weight n sizes (Struct k) z h = z.each k h
-  size_weight n sizes (Array' j (more_of-Shape s end_of-Shape) dim) z h = ap (λ (m : ℕ). times b dim * m) (size_weight n sizes s z h)
+  unfolding layout_with
+  size_weight n sizes s z h = ap (extent b s.dims) (plain_weight n sizes s.plain z h) ∙ extent_weight s.dims (plain_layout (λ k. struct_layout (reverse structs) k) s.plain)
 
   pub sum_weight : (n : ℕ) (sizes : List ℕ) (fs : List FieldDef) → AreSized b structs n sizes → FieldsBelow n fs →
       sum_by b sizes (map field_shape fs) ≡ weights b (layouts_with (λ k. struct_layout (reverse structs) k) fs)

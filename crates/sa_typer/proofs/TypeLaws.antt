@@ -9,7 +9,6 @@ use Rattle.sa_syntax.specs.declared.decl.Qualified.{Qualified}
 use Rattle.sa_typed.specs.declared.program.Program.{Program}
 use Rattle.sa_typed.specs.declared.program.Var.{Var}
 use Rattle.sa_typed.specs.declared.shape.Shape.{Shape}
-use Rattle.sa_typed.specs.declared.shape.Shape.TheVariants as sh
 use Rattle.sa_typed.specs.declared.shape.StructDef.{StructDef}
 use Rattle.sa_typer.specs.declared.operand.Operand.{Operand}
 use Rattle.sa_typer.specs.declared.structs.Fields.{Fields}
@@ -22,13 +21,13 @@ use Rattle.sa_typer.specs.declared.types.Tagged.TheVariants as t
 use Rattle.sa_typer.specs.declared.types.Ty.{Ty}
 use Rattle.sa_typer.specs.declared.typer.Typer.{Typer}
 use Rattle.sa_typer.specs.Scopes.{Scope, meaning_of, is_visible}
-use Rattle.sa_typer.specs.Types.{qualifier, qualifiers, is_misplaced, plain, scalar, defined, tagged, alias, type_name, qualified, not_void, whole, object, element_shape, shape_of}
+use Rattle.sa_typer.specs.Types.{qualifier, qualifiers, is_misplaced, plain, scalar, defined, tagged, alias, type_name, qualified, not_void, whole, object, shape_of}
 use Rattle.sa_typer.specs.Operands.{known_value}
 use Rattle.sa_typer.specs.Definitions.{is_dimension, dimension_by, dimension, is_taken, with_field, field, opened, with_tag, name_or_empty, closed}
 use Rattle.sa_typer.specs.Typing.{Typed, Typing, Gives, and_then, pure, refuse, refused}
 use Rattle.sa_typer.proofs.StructLaws.{IsFront, slice_front, slice_cases, RefersBelow, FieldsBelow, DefsBelow, refers_more, fields_more, fields_append}
 use Rattle.sa_typer.proofs.WalkLaws.{Ends, Later, same_state, ElementBelow, element_more, IsThere, there_more, IsTagThere, tag_more, IsSound, Well, Leads, Any, gives, refuses, refusal, bind, next, from, so, either, one_of, unless, all_parts}
-use Rattle.sa_typer.proofs.OperandLaws.{constant_leads}
+use Rattle.sa_typer.proofs.OperandLaws.{constant_leads, no_object_leads}
 use Rattle.sa_typer.proofs.PlaceLaws.{meaning_there}
 
 -- ---- promises
@@ -41,12 +40,10 @@ abbrev pub GoodFields : Fields → Typer → Type 0
 GoodFields f t = FieldsBelow (length t.structs.defs) f.defs
 
 pub shape_below : (n : ℕ) (e : Element) (dims : List ℕ) → ElementBelow n e → RefersBelow n (shape_of e dims)
-unfolding shape_of RefersBelow Rattle.sa_typed.specs.declared.shape.Shape.TheBlock.hidden-the_row-Shape-0 denote.Hole.Carrier.hidden
-shape_below n el.Void [] h = tt
-shape_below n (el.Scalar num) [] h = tt
-shape_below n (el.Struct k) [] h = h
-shape_below n el.Unknown [] h = tt
-shape_below n e (d ∷ dims) h = shape_below n e dims h
+shape_below n el.Void dims h = tt
+shape_below n (el.Scalar num) dims h = tt
+shape_below n (el.Struct k) dims h = h
+shape_below n el.Unknown dims h = tt
 
 set_cases : {A : Type 0} (xs : List A) (i : ℕ) (x : A) (k : ℕ) (y : A) → slice_get (set xs i x) k ≡ Some y → (slice_get xs k ≡ Some y) ⊎ (x ≡ y)
 set_cases [] i x k y h = cc
@@ -108,7 +105,7 @@ module _ (p : Program) where
 
   pub dimension_leads : {X : Type 0} (q : Pos) (x : Operand) (s : Typer) → Leads p X s Any (dimension q x s)
   unfolding dimension
-  dimension_leads q x s = next (constant_leads p q (known_value x) s) (λ o t. by_dimension q o t)
+  dimension_leads q x s = next (no_object_leads p x s) (λ a t. next (constant_leads p q (known_value x) t) (λ o u. by_dimension q o u))
 
   pub field_leads : (x : Name) (ty : Ty) (dims : List ℕ) (f : Fields) (s : Typer) → Leads p (GoodTy ty s × GoodFields f s) s GoodFields (field x ty dims f s)
   unfolding field

@@ -38,12 +38,13 @@ use Rattle.sa_typer.specs.Statements.{item}
 use Rattle.sa_typer.specs.Bodies as body
 use Rattle.sa_typer.specs.Bodies.{block, no_body, main_by, main_item, main_items, main_block, clock_loop}
 use Rattle.sa_typer.specs.Units as unit
-use Rattle.sa_typer.specs.Units.{plain_type, type_name, is_main, first_main, main, blank, Answer, Accepts, Refuses, TooManyCells, is_entry, program, cells, result_of, result_cells, unless_refused, answer_by, answered, answer}
-use Rattle.sa_typer.specs.Units.{refusal as refused_as}
-use Rattle.sa_typer.specs.Typing.{Typed, Typing, Gives, and_then, pure, each, fault, lesser}
+use Rattle.sa_typer.specs.Units.{plain_type, type_name, is_main, first_main, main, blank, Answer, Accepts, Refuses, TooManyCells, has_entry, program, cells, result_of, result_cells, refusals_by, refusals_in, refusals, accepted_by, accepted_in, unless_refused, answer}
+use Rattle.sa_typer.specs.Refusals.{least_of}
+use Rattle.sa_typer.specs.Typing.{Typed, Typing, Gives, and_then, pure, each, fault}
 use Rattle.sa_typer.proofs.StructLaws.{RefersBelow, DefsBelow, IsFront, weight, cells_weight, AreSized, size_weight, sizes_known}
 use Rattle.sa_typer.proofs.RowLaws.{AllStmts, stmts_append, block_typed, clock_typed}
-use Rattle.sa_typer.proofs.WalkLaws.{Ends, Later, Well, IsSound, Leads, Any, state, value, gives, refuses, refusal, bind, next, from, free, either, one_of, unless, all_parts}
+use Rattle.sa_typer.proofs.WalkLaws.{Ends, Later, no_fault, Well, IsSound, Leads, Any, state, value, gives, refuses, refusal, bind, next, from, free, either, one_of, unless, all_parts}
+use Rattle.sa_typer.proofs.RefusalLaws.{least_none, unrefused}
 use Rattle.sa_typer.proofs.TypeLaws.{GoodTy, qualifiers_leads}
 use Rattle.sa_typer.proofs.ExprLaws.{structure_leads, type_leads}
 use Rattle.sa_typer.proofs.DeclarationLaws.{named_leads, declared_leads, local_leads}
@@ -64,13 +65,13 @@ module _ (p : Program) where
   abbrev GoodBody : Body → Type 0
   GoodBody b = AllStmts p b.stmts
 
-  main_by_leads : (o : Option (List BlockItem)) (i : BlockItem) (found : List Stmt) (s : Typer) → Leads p (AllStmts p found) s (λ b t. GoodBody b) (main_by o i found s)
-  main_by_leads (Some before) i found s = next (block_leads before s) (λ ss t. gives (λ w h e. stmts_append p found (typed.Clock (item_pos i) ss) h.0 (clock_typed p (item_pos i) ss h.1)))
-  main_by_leads None i found s = next (part_leads i found s) (λ ss t. gives (λ w h e. h.1))
+  main_by_leads : (o : Option (List BlockItem)) (i : BlockItem) (b : Body) (s : Typer) → Leads p (GoodBody b) s (λ b t. GoodBody b) (main_by o i b s)
+  main_by_leads (Some before) i b s = next (block_leads before s) (λ ss t. gives (λ w h e. stmts_append p b.stmts (typed.Clock (item_pos i) ss) h.0 (clock_typed p (item_pos i) ss h.1)))
+  main_by_leads None i b s = next (part_leads i b.stmts s) (λ ss t. gives (λ w h e. h.1))
 
   main_item_leads : (i : BlockItem) (b : Body) (s : Typer) → Leads p (GoodBody b) s (λ b t. GoodBody b) (main_item i b s)
   unfolding main_item
-  main_item_leads i b s = one_of b.clock _ _ (λ h. refuses 23 (item_pos i)) (λ h. main_by_leads (clock_loop i) i b.stmts s)
+  main_item_leads i b s = next (unless b.clock 23 (item_pos i)) (λ a t. from (λ h. h.0) (main_by_leads (clock_loop i) i b t))
 
   main_block_leads : {X : Type 0} (is : List BlockItem) (s : Typer) → Leads p X s (λ b t. GoodBody b) (main_block is s)
   unfolding main_block
@@ -176,7 +177,7 @@ record Accepted (o : Option Entry) (s : Typer) (p : Program) : Type 0 where
   body : GoodEntry p o → IsTypedStmt p (main_of p)
   few : cells_in s.structs (map var_shape s.vars) ≤ 65536
 
-own_program : (s : Typer) (e : Entry) → s.least ≡ None → cells_in s.structs (map var_shape s.vars) ≤ 65536 → Accepted (Some e) s (program s e)
+own_program : (s : Typer) (e : Entry) → s.faults ≡ [] → cells_in s.structs (map var_shape s.vars) ≤ 65536 → Accepted (Some e) s (program s e)
 own_program s e h k = record {
   ends = record { clear = h; structs = λ k x g. g; vars = λ k x g. g; inputs = λ k x g. g };
   vars = refl;
@@ -191,31 +192,29 @@ few_cells s e h =
     let most : limit_number Cells ≡ 65536 = refl in
     omega (arith, all, most)
 
-of_cells : (b : Bool) (s : Typer) (e : Entry) (p : Program) → nat_le (cells s e) (limit_number Cells) ≡ b → s.least ≡ None → (if b then Accepts (program s e) else TooManyCells) ≡ Accepts p → Accepted (Some e) s p
+of_cells : (b : Bool) (s : Typer) (e : Entry) (p : Program) → nat_le (cells s e) (limit_number Cells) ≡ b → s.faults ≡ [] → (if b then Accepts (program s e) else TooManyCells) ≡ Accepts p → Accepted (Some e) s p
 of_cells true s e p k h g = let same : program s e ≡ p = cc in subst (Accepted (Some e) s) same (own_program s e h (few_cells s e k))
 of_cells false s e p k h g = cc
 
-of_least : (o : Option Fault) (s : Typer) (e : Entry) (p : Program) → s.least ≡ o → unless_refused o s e ≡ Accepts p → Accepted (Some e) s p
-of_least (Some f) s e p h g = cc
-of_least None s e p h g = of_cells (nat_le (cells s e) (limit_number Cells)) s e p refl h g
+of_entry : (o : Option Entry) (s : Typer) (p : Program) → s.faults ≡ [] → accepted_by o s ≡ Accepts p → Accepted o s p
+of_entry None s p h g = cc
+of_entry (Some e) s p h g = of_cells (nat_le (cells s e) (limit_number Cells)) s e p refl h g
 
-of_entry : (b : Bool) (s : Typer) (e : Entry) (r : Answer) (p : Program) → ((q : Program) → r ≡ Accepts q → ⊥) → (if b then unless_refused s.least s e else r) ≡ Accepts p → Accepted (Some e) s p
-of_entry true s e r p other g = of_least s.least s e p refl g
-of_entry false s e r p other g = absurd (other p g)
+none_refused : (b : Bool) (fs : List Fault) (f : Fault) → (if b then fs else (fs ++ f ∷ [])) ≡ [] → fs ≡ []
+none_refused true fs f h = h
+none_refused false fs f h = absurd (no_fault fs f h)
 
-of_answer : (end : Pos) (o : Option Entry) (s : Typer) (p : Program) → answer_by end o s ≡ Accepts p → Accepted o s p
-of_answer end None s p g = cc
-of_answer end (Some e) s p g = of_entry (is_entry e) s e (Refuses (refused_as (lesser s.least (fault 22 end)))) p (λ q h. cc) g
-
-of_walk : (end : Pos) (t : Typed (Option Entry)) (p : Program) → answered end t ≡ Accepts p → Accepted (value t) (state t) p
-of_walk end (Gives o s) p g = of_answer end o s p g
+of_walk : (end : Pos) (t : Typed (Option Entry)) (p : Program) → unless_refused (least_of (refusals_in end t)) (accepted_in t) ≡ Accepts p → Accepted (value t) (state t) p
+of_walk end (Gives o s) p g =
+    let least = unrefused (least_of (refusals_by end o s)) (accepted_by o s) p g in
+    of_entry o s p (none_refused (has_entry o) s.faults (fault 22 end) (least_none (refusals_by end o s) least.0)) least.1
 
 module _ (u : Source) (end : Pos) (p : Program) (h : answer u end ≡ Accepts p) where
   walk : Typed (Option Entry)
   walk = unit.items u.items None blank
 
   is : Accepted (value walk) (state walk) p
-  unfolding answer walk
+  unfolding answer refusals walk
   is = of_walk end walk p h
 
   good : Well p (state walk) × GoodEntry p (value walk)

@@ -16,13 +16,13 @@ use Rattle.sa_typer.specs.declared.types.Tagged.{Tagged}
 use Rattle.sa_typer.specs.declared.types.Tagged.TheVariants as t
 use Rattle.sa_typer.specs.declared.typer.Fault.{Fault}
 use Rattle.sa_typer.specs.declared.typer.Typer.{Typer}
-use Rattle.sa_typer.specs.Typing.{Typed, Typing, Gives, and_then, each, refused, refuse, refuse_if}
+use Rattle.sa_typer.specs.Typing.{Typed, Typing, Gives, and_then, each, fault, refused, refuse, refuse_if}
 use Rattle.sa_typer.proofs.StructLaws.{IsFront, RefersBelow, DefsBelow}
 
 -- ---- states
 -- nothing was refused, and the program has all that was seen
 pub record Ends (p : Program) (s : Typer) : Type 0 where
-  pub clear : s.least ≡ None
+  pub clear : s.faults ≡ []
   pub structs : IsFront s.structs.defs p.structs
   pub vars : IsFront s.vars p.vars
   pub inputs : IsFront s.inputs p.inputs
@@ -99,10 +99,14 @@ Any a s = Unit {0}
 pub gives : {A : Type 0} {p : Program} {X : Type 0} {s : Typer} {Y : A → Typer → Type 0} {a : A} → (Well p s → X → Ends p s → Y a s) → Leads p X s Y (Gives a s)
 gives {p = p} {s = s} h = record { later = same_state p s; good = λ w x e. (w, h w x e) }
 
+pub no_fault : {A : Type 0} (xs : List A) (x : A) → xs ++ x ∷ [] ≡ [] → ⊥
+no_fault [] x h = cc
+no_fault (y ∷ xs) x h = cc
+
 -- after a refusal nothing is promised
 refused_ends : (p : Program) (rule : ℕ) (q : Pos) (s : Typer) → Ends p (refused rule q s) → ⊥
 unfolding refused
-refused_ends p rule q s e = cc e.clear
+refused_ends p rule q s e = no_fault s.faults (fault rule q) e.clear
 
 refused_later : (p : Program) (rule : ℕ) (q : Pos) (s : Typer) → Later p s (refused rule q s)
 unfolding refused

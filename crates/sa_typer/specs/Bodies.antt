@@ -17,7 +17,7 @@ use Rattle.sa_typed.specs.declared.stmt.Stmt.TheVariants as t
 use Rattle.sa_typer.specs.declared.bodies.Body.{Body}
 use Rattle.sa_typer.specs.First.{item_pos}
 use Rattle.sa_typer.specs.Statements.{item, scoped}
-use Rattle.sa_typer.specs.Typing.{Typing, ◌>>=◌, ◌>>◌, pure, refuse, each}
+use Rattle.sa_typer.specs.Typing.{Typing, ◌>>=◌, ◌>>◌, pure, refuse_if, each}
 
 -- the items of a block, one after the other
 abbrev pub items : List BlockItem → List Stmt → Typing (List Stmt)
@@ -63,17 +63,18 @@ loop_in a = elim (out-Stmt a) as (λ _. Option (List BlockItem)) [
 unfoldable pub clock_loop : BlockItem → Option (List BlockItem)
 clock_loop i = elim (out-BlockItem i) as (λ _. Option (List BlockItem)) [ BlockItem-F.Local l ↦ None | BlockItem-F.Stmt a ↦ loop_in a ]
 
--- ---- main's block: the first clock loop directly in it is the one, and nothing follows it
+-- ---- main's block: the first clock loop directly in it is the one. What follows it is refused at its first token, and is
+-- typed as any other item besides
 abbrev pub no_body : Body
 no_body = record { stmts = []; clock = false }
 
--- an item, given what stands before the wait where it is the clock loop; its first token is the loop's word
-abbrev pub main_by : Option (List BlockItem) → BlockItem → List Stmt → Typing Body
-main_by (Some before) i found = block before >>= (λ ss. pure (record { stmts = found ++ t.Clock (item_pos i) ss ∷ []; clock = true }))
-main_by None i found = item i found >>= (λ ss. pure (record { stmts = ss; clock = false }))
+-- an item, given what stands before the wait where it is a clock loop; its first token is the loop's word
+abbrev pub main_by : Option (List BlockItem) → BlockItem → Body → Typing Body
+main_by (Some before) i b = block before >>= (λ ss. pure (record { stmts = b.stmts ++ t.Clock (item_pos i) ss ∷ []; clock = true }))
+main_by None i b = item i b.stmts >>= (λ ss. pure (record b { stmts = ss }))
 
 unfoldable pub main_item : BlockItem → Body → Typing Body
-main_item i b = if b.clock then (refuse 23 (item_pos i) >> pure b) else main_by (clock_loop i) i b.stmts
+main_item i b = refuse_if b.clock 23 (item_pos i) >> main_by (clock_loop i) i b
 
 abbrev pub main_items : List BlockItem → Body → Typing Body
 main_items is = each main_item is

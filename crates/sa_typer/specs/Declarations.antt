@@ -21,14 +21,15 @@ use Rattle.sa_typed.specs.declared.program.Home.{Home}
 use Rattle.sa_typed.specs.declared.program.Home.TheVariants as home
 use Rattle.sa_typed.specs.declared.program.Input.{Input}
 use Rattle.sa_typed.specs.declared.program.Var.{Var}
-use Rattle.sa_typed.specs.declared.shape.Shape.{Shape, out-Shape}
-use Rattle.sa_typed.specs.declared.shape.Shape.TheOpen.{Shape-F}
+use Rattle.sa_typed.specs.declared.shape.Shape.{Shape}
 use Rattle.sa_typed.specs.declared.stmt.Simple.TheVariants as simply
 use Rattle.sa_typed.specs.declared.stmt.Start.{Start}
 use Rattle.sa_typed.specs.declared.stmt.Start.TheVariants as start
 use Rattle.sa_typed.specs.declared.stmt.Stmt.{Stmt}
 use Rattle.sa_typed.specs.declared.stmt.Stmt.TheVariants as t
 use Rattle.sa_typer.specs.declared.bodies.Beginning.{Beginning}
+use Rattle.sa_typer.specs.declared.form.Form.{Form}
+use Rattle.sa_typer.specs.declared.form.Form.TheVariants as form
 use Rattle.sa_typer.specs.declared.operand.Operand.{Operand}
 use Rattle.sa_typer.specs.declared.types.Element.{Element}
 use Rattle.sa_typer.specs.declared.types.Element.TheVariants as el
@@ -36,11 +37,12 @@ use Rattle.sa_typer.specs.declared.types.Named.{Named}
 use Rattle.sa_typer.specs.declared.types.Named.TheVariants as n
 use Rattle.sa_typer.specs.declared.types.Ty.{Ty}
 use Rattle.sa_typer.specs.First.{expr_pos, init_pos}
+use Rattle.sa_typer.specs.Forms.{form_of}
 use Rattle.sa_typer.specs.Scopes.{is_visible, with_name}
 use Rattle.sa_typer.specs.Types.{qualifiers, has_volatile, shape_of}
 use Rattle.sa_typer.specs.Operands.{sort_of, is_object, expr_or}
 use Rattle.sa_typer.specs.Expressions.{expr}
-use Rattle.sa_typer.specs.Initialisers.{init, trimmed}
+use Rattle.sa_typer.specs.Initialisers.{values}
 use Rattle.sa_typer.specs.Lists.{bounds, object_type}
 use Rattle.sa_typer.specs.Typing.{Typing, Gives, ◌>>=◌, ◌>>◌, pure, refuse, refuse_if, refused, each}
 
@@ -79,11 +81,11 @@ input_type true e dims start = input_by e dims start
 -- the initial values, given whether the type is volatile
 abbrev pub initial : Bool → Shape → Begins → Typing (List ℤ)
 initial volatile shape begins.Nothing = pure []
-initial volatile shape (begins.Init p i) = refuse_if volatile 20 (init_pos i) >> init i shape []
+initial volatile shape (begins.Init p i) = refuse_if volatile 20 (init_pos i) >> values i shape
 
 abbrev pub global_by : Option Num → Bool → Ty → Name → Shape → Begins → Typing (Unit {0})
 global_by (Some num) volatile ty x shape start = input x num
-global_by None volatile ty x shape start = initial volatile shape start >>= (λ zs. variable x shape home.Global ty.constant (trimmed zs) >> pure tt)
+global_by None volatile ty x shape start = initial volatile shape start >>= (λ zs. variable x shape home.Global ty.constant zs >> pure tt)
 
 unfoldable pub global : Bool → Ty → InitDeclr → Typing (Unit {0})
 global volatile ty d =
@@ -121,16 +123,14 @@ abbrev pub beginning : Start → List ℤ → Beginning
 beginning s zs = record { start = s; initial = zs }
 
 -- a local begins with the value of an expression; the places are those of the `=` and of the expression's first token
-abbrev pub begun_with : Pos → Pos → Shape → Operand → Typing Beginning
-begun_with p q shape x = elim (out-Shape shape) as (λ _. Typing Beginning) [
-  | Shape-F.Scalar num ↦ refuse_if (is_object (sort_of x)) 5 p >> pure (beginning (start.Value p (expr_or x)) [])
-  | _ ↦ refuse 20 q >> pure (beginning start.Any [])
-]
+abbrev pub begun_with : Pos → Pos → Form → Operand → Typing Beginning
+begun_with p q (form.Scalar num) x = refuse_if (is_object (sort_of x)) 5 p >> pure (beginning (start.Value p (expr_or x)) [])
+begun_with p q _ x = refuse 20 q >> pure (beginning start.Any [])
 
 abbrev pub begun_by : Pos → Shape → Init → Typing Beginning
 begun_by p shape i = elim (out-Init i) as (λ _. Typing Beginning) [
-  | Init-F.Value e ↦ expr e >>= (λ x. begun_with p (expr_pos e) shape x)
-  | Init-F.Braces q is ↦ init i shape [] >>= (λ zs. pure (beginning start.Items (trimmed zs)))
+  | Init-F.Value e ↦ expr e >>= (λ x. begun_with p (expr_pos e) (form_of shape) x)
+  | Init-F.Braces q is ↦ values i shape >>= (λ zs. pure (beginning start.Items zs))
 ]
 
 -- a call isn't built yet

@@ -19,7 +19,7 @@ use Rattle.sa_typer.specs.Scopes.{Scope, nothing, meaning_of, is_visible, with_n
 use Rattle.sa_typer.specs.Structures.{with_struct}
 use Rattle.sa_typer.specs.Types.{plain, shape_of}
 use Rattle.sa_typer.specs.Values.{constant}
-use Rattle.sa_typer.specs.Operands.{known_value}
+use Rattle.sa_typer.specs.Operands.{known_value, no_object}
 use Rattle.sa_typer.specs.Typing.{Typing, Gives, ◌>>=◌, ◌>>◌, pure, refuse, refused}
 
 -- ---- dimensions
@@ -32,7 +32,7 @@ dimension_by p (Some z) = if is_dimension z then pure (unsigned_abs z) else (ref
 
 -- a dimension that is such an operand, with its first token at that place; what was refused counts as 1
 unfoldable pub dimension : Pos → Operand → Typing ℕ
-dimension p x = constant p (known_value x) >>= dimension_by p
+dimension p x = no_object x >> (constant p (known_value x) >>= dimension_by p)
 
 -- ---- fields
 abbrev pub no_fields : Fields

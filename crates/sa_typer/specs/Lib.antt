@@ -1,7 +1,9 @@
 pub mod Scopes
+pub mod Forms
 pub mod Structures
 pub mod Constants
 pub mod Typing
+pub mod Refusals
 pub mod First
 pub mod Types
 pub mod Values
@@ -15,4 +17,5 @@ pub mod Declarations
 pub mod Statements
 pub mod Bodies
 pub mod Units
+pub mod RefusalLaws
 pub mod Answers

@@ -57,6 +57,12 @@ abbrev pub expr_or : Operand → Expr
 expr_or (a.Number x num v) = x
 expr_or _ = stand_in
 
+-- a struct or an array where a number is needed and no operator takes it, at the name of its variable
+abbrev pub no_object : Operand → Typing (Unit {0})
+no_object (a.Struct x k fixed p) = refuse 5 p
+no_object (a.Array p) = refuse 5 p
+no_object _ = pure tt
+
 -- ---- literals
 -- no text has a literal that its type doesn't hold; such a one counts as 0
 abbrev pub literal_number : Num → ℕ → ℕ

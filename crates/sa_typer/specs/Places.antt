@@ -1,5 +1,5 @@
 -- Places: a variable, and the steps into it.
-use Rattle.std.specs.Prelude.{ℕ, List, [], ◌∷◌, ◌++◌, ◌&&◌, ◌||◌, Bool, true, false, slice_get, Option, Some, None}
+use Rattle.std.specs.Prelude.{ℕ, ◌+◌, List, [], ◌∷◌, ◌++◌, ◌&&◌, ◌||◌, Bool, true, false, slice_get, Option, Some, None}
 use Rattle.sa_base.specs.declared.num.Num.{Num}
 use Rattle.sa_base.specs.declared.num.Num.TheVariants.{I32}
 use Rattle.sa_base.specs.declared.pos.Pos.{Pos}
@@ -12,10 +12,10 @@ use Rattle.sa_typed.specs.declared.expr.Expr.TheVariants as e
 use Rattle.sa_typed.specs.declared.expr.Step.{Step}
 use Rattle.sa_typed.specs.declared.expr.Step.TheVariants as step
 use Rattle.sa_typed.specs.declared.program.Var.{Var}
-use Rattle.sa_typed.specs.declared.shape.Shape.{Shape, out-Shape}
-use Rattle.sa_typed.specs.declared.shape.Shape.TheOpen.{Shape-F}
-use Rattle.sa_typed.specs.declared.shape.Shape.TheVariants as sh
+use Rattle.sa_typed.specs.declared.shape.Shape.{Shape}
 use Rattle.sa_typer.specs.declared.constant.Value.TheVariants.{Varies}
+use Rattle.sa_typer.specs.declared.form.Form.{Form}
+use Rattle.sa_typer.specs.declared.form.Form.TheVariants as form
 use Rattle.sa_typer.specs.declared.operand.Operand.{Operand}
 use Rattle.sa_typer.specs.declared.operand.Operand.TheVariants as a
 use Rattle.sa_typer.specs.declared.operand.Root.{Root}
@@ -26,6 +26,7 @@ use Rattle.sa_typer.specs.declared.types.Named.TheVariants as n
 use Rattle.sa_typer.specs.declared.typer.Typer.{Typer}
 use Rattle.sa_typer.specs.Scopes.{meaning_of}
 use Rattle.sa_typer.specs.declared.structs.Member.{Member}
+use Rattle.sa_typer.specs.Forms.{scalar, form_inside}
 use Rattle.sa_typer.specs.Structures.{member_of}
 use Rattle.sa_typer.specs.Values.{is_constant}
 use Rattle.sa_typer.specs.Operands.{expr_or, known_value, sort_of, is_object}
@@ -53,7 +54,7 @@ pointed star x = λ s. pointed_by star x.pos (meaning_of s.names x.text) s
 
 -- a variable as a whole
 abbrev pub spot_at : Pos → Root → Option Shape → Bool → Spot
-spot_at p r shape locked = record { root = r; name = p; shape = shape; locked = locked; steps = []; fixed = true }
+spot_at p r shape locked = record { root = r; name = p; shape = shape; depth = 0; locked = locked; steps = []; fixed = true }
 
 abbrev pub variable_at : Pos → ℕ → Option Var → Spot
 variable_at p k None = spot_at p (root.Variable k) None false
@@ -61,7 +62,7 @@ variable_at p k (Some v) = spot_at p (root.Variable k) (Some v.shape) v.constant
 
 unfoldable pub spot_of : Typer → Pos → Root → Spot
 spot_of s p (root.Variable k) = variable_at p k (slice_get s.vars k)
-spot_of s p (root.Input k num) = spot_at p (root.Input k num) (Some (sh.Scalar num)) true
+spot_of s p (root.Input k num) = spot_at p (root.Input k num) (Some (scalar num)) true
 spot_of s p root.Nothing = spot_at p root.Nothing None false
 
 abbrev pub begun : Pos → Typing Root → Typing Spot
@@ -77,45 +78,43 @@ begins (base.Star star x) = begun x.pos (pointed star x)
 abbrev pub lost : Step → Spot → Spot
 lost x l = record l { shape = None; steps = l.steps ++ x ∷ [] }
 
--- a step to an element or a field, and whether that may not be assigned to
+-- a step to an element
+abbrev pub deeper : Step → Spot → Spot
+deeper x l = record l { depth = l.depth + 1; steps = l.steps ++ x ∷ [] }
+
+-- a step to a field, and whether that may not be assigned to
 abbrev pub stepped : Step → Shape → Bool → Spot → Spot
-stepped x shape locked l = record l { shape = Some shape; locked = locked; steps = l.steps ++ x ∷ [] }
+stepped x shape locked l = record l { shape = Some shape; depth = 0; locked = locked; steps = l.steps ++ x ∷ [] }
+
+-- what stands at a place at the outside, where that is known
+abbrev pub form_at : Spot → Option Form
+form_at l = form_inside l.shape l.depth
 
 -- after an index that is such an operand
 abbrev pub indexed_with : Operand → Spot → Spot
 indexed_with i l = record l { fixed = l.fixed && is_constant (known_value i) }
 
-abbrev pub element : Pos → Expr → Shape → Spot → Typing Spot
-element p i shape l = elim (out-Shape shape) as (λ _. Typing Spot) [
-  | Shape-F.Array inner count ↦ pure (stepped (step.At p count i) inner l.locked l)
-  | _ ↦ refuse 5 p >> pure (lost (step.At p 1 i) l)
-]
-
-abbrev pub element_of : Pos → Expr → Option Shape → Spot → Typing Spot
+abbrev pub element_of : Pos → Expr → Option Form → Spot → Typing Spot
 element_of p i None l = pure (lost (step.At p 1 i) l)
-element_of p i (Some shape) l = element p i shape l
+element_of p i (Some (form.Array count)) l = pure (deeper (step.At p count i) l)
+element_of p i (Some _) l = refuse 5 p >> pure (lost (step.At p 1 i) l)
 
 -- `[i]`
 unfoldable pub index : Pos → Operand → Spot → Typing Spot
-index p i l = refuse_if (is_object (sort_of i)) 5 p >> element_of p (expr_or i) l.shape (indexed_with i l)
+index p i l = refuse_if (is_object (sort_of i)) 5 p >> element_of p (expr_or i) (form_at l) (indexed_with i l)
 
 abbrev pub to_member : Pos → Option Member → Spot → Typing Spot
 to_member p None l = refuse 4 p >> pure (lost (step.Field 0) l)
 to_member p (Some m) l = pure (stepped (step.Field m.number) m.shape (l.locked || m.constant) l)
 
-abbrev pub field_in : Pos → Name → Shape → Spot → Typing Spot
-field_in p x shape l = elim (out-Shape shape) as (λ _. Typing Spot) [
-  | Shape-F.Struct k ↦ λ s. to_member x.pos (member_of s.structs k x.text) l s
-  | _ ↦ refuse 5 p >> pure (lost (step.Field 0) l)
-]
-
-abbrev pub field_of : Pos → Name → Option Shape → Spot → Typing Spot
+abbrev pub field_of : Pos → Name → Option Form → Spot → Typing Spot
 field_of p x None l = pure (lost (step.Field 0) l)
-field_of p x (Some shape) l = field_in p x shape l
+field_of p x (Some (form.Struct k)) l = λ s. to_member x.pos (member_of s.structs k x.text) l s
+field_of p x (Some _) l = refuse 5 p >> pure (lost (step.Field 0) l)
 
 -- `.x`
 unfoldable pub field : Pos → Name → Spot → Typing Spot
-field p x l = field_of p x l.shape l
+field p x l = field_of p x (form_at l) l
 
 abbrev pub is_known : Option Shape → Bool
 is_known None = false
@@ -139,13 +138,12 @@ access l = access_of l.root l.steps
 abbrev pub reading : Root → List Step → Num → Expr
 reading r steps num = elim r as (λ _. Expr) [ root.Input k m ↦ e.Input k num | _ ↦ e.Read (access_of r steps) num ]
 
-abbrev pub operand_in : Spot → Shape → Operand
-operand_in l shape = elim (out-Shape shape) as (λ _. Operand) [
-  | Shape-F.Scalar num ↦ a.Number (reading l.root l.steps num) num Varies
-  | Shape-F.Struct k ↦ a.Struct (access l) k l.fixed l.name
-  | Shape-F.Array inner count ↦ a.Array l.name
-]
+abbrev pub operand_by : Spot → Option Form → Operand
+operand_by l None = a.Unknown
+operand_by l (Some (form.Scalar num)) = a.Number (reading l.root l.steps num) num Varies
+operand_by l (Some (form.Struct k)) = a.Struct (access l) k l.fixed l.name
+operand_by l (Some (form.Array count)) = a.Array l.name
 
 -- what stands at a place
 unfoldable pub operand : Spot → Operand
-operand l = elim l.shape as (λ _. Operand) [ None ↦ a.Unknown | Some shape ↦ operand_in l shape ]
+operand l = operand_by l (form_at l)

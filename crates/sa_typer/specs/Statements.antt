@@ -25,21 +25,21 @@ use Rattle.sa_typed.specs.declared.expr.Expr.{Expr}
 use Rattle.sa_typed.specs.declared.expr.Expr.TheVariants as e
 use Rattle.sa_typed.specs.declared.expr.Operator.{Operator}
 use Rattle.sa_typed.specs.declared.expr.Operator.TheVariants as op
-use Rattle.sa_typed.specs.declared.shape.Shape.{Shape, out-Shape}
-use Rattle.sa_typed.specs.declared.shape.Shape.TheOpen.{Shape-F}
 use Rattle.sa_typed.specs.declared.stmt.Simple.{Simple}
 use Rattle.sa_typed.specs.declared.stmt.Simple.TheVariants as simply
 use Rattle.sa_typed.specs.declared.stmt.Stmt.{Stmt}
 use Rattle.sa_typed.specs.declared.stmt.Stmt.TheVariants as t
 use Rattle.sa_typer.specs.declared.bodies.Body.{Body}
 use Rattle.sa_typer.specs.declared.constant.Value.TheVariants.{Varies}
+use Rattle.sa_typer.specs.declared.form.Form.{Form}
+use Rattle.sa_typer.specs.declared.form.Form.TheVariants as form
 use Rattle.sa_typer.specs.declared.operand.Operand.{Operand}
 use Rattle.sa_typer.specs.declared.operand.Operand.TheVariants as a
 use Rattle.sa_typer.specs.declared.operand.Spot.{Spot}
 use Rattle.sa_typer.specs.First.{place_pos, item_pos}
 use Rattle.sa_typer.specs.Constants.{working}
 use Rattle.sa_typer.specs.Operands.{stand_in, sort_of, is_object}
-use Rattle.sa_typer.specs.Places.{access}
+use Rattle.sa_typer.specs.Places.{access, form_at}
 use Rattle.sa_typer.specs.declared.operand.Sort.{Sort}
 use Rattle.sa_typer.specs.declared.operand.Sort.TheVariants as sort
 use Rattle.sa_typer.specs.Expressions.{expr}
@@ -69,24 +69,15 @@ to_struct x fixed k p (a.Struct y j from_fixed q) = refuse_if (not (k == j && fi
 to_struct x fixed k p (a.Array q) = mismatched x p
 to_struct x fixed k p a.Unknown = pure (some_assignment x p)
 
--- an array isn't assigned to, whatever known sort is
-abbrev pub to_array : Access → Pos → Sort → Typing Simple
-to_array x p sort.Unknown = pure (some_assignment x p)
-to_array x p _ = mismatched x p
-
-abbrev pub to_shape : Spot → Shape → Pos → Operand → Typing Simple
-to_shape l shape p i = elim (out-Shape shape) as (λ _. Typing Simple) [
-  | Shape-F.Scalar num ↦ to_number (access l) num p i
-  | Shape-F.Struct k ↦ to_struct (access l) l.fixed k p i
-  | Shape-F.Array inner count ↦ to_array (access l) p (sort_of i)
-]
-
-abbrev pub to_option : Spot → Option Shape → Pos → Operand → Typing Simple
-to_option l None p i = pure (some_assignment (access l) p)
-to_option l (Some shape) p i = to_shape l shape p i
+-- given what stands at the left; an array isn't assigned to, whatever stands at the right
+abbrev pub to_form : Spot → Option Form → Pos → Operand → Typing Simple
+to_form l None p i = pure (some_assignment (access l) p)
+to_form l (Some (form.Scalar num)) p i = to_number (access l) num p i
+to_form l (Some (form.Struct k)) p i = to_struct (access l) l.fixed k p i
+to_form l (Some (form.Array count)) p i = mismatched (access l) p
 
 unfoldable pub assigned : Spot → Pos → Operand → Typing Simple
-assigned l p i = to_option l l.shape p i
+assigned l p i = to_form l (form_at l) p i
 
 -- ---- compound assignments, `++` and `--`
 abbrev pub compound_of : Compound → Operator
@@ -108,12 +99,10 @@ turn_of turn.Down = op.Minus
 abbrev pub one : Operand
 one = a.Number (e.Number 1 I32) I32 Varies
 
-abbrev pub known_sort : Shape → Sort
-known_sort shape = elim (out-Shape shape) as (λ _. Sort) [ Shape-F.Scalar num ↦ sort.Number num | _ ↦ sort.Object ]
-
-abbrev pub shape_sort : Option Shape → Sort
-shape_sort None = sort.Unknown
-shape_sort (Some shape) = known_sort shape
+abbrev pub sort_by : Option Form → Sort
+sort_by None = sort.Unknown
+sort_by (Some (form.Scalar num)) = sort.Number num
+sort_by (Some _) = sort.Object
 
 -- numbers on both sides, given the sort of the left one
 abbrev pub compounded_number : Access → Operator → Pos → Sort → Expr → Num → Typing Simple
@@ -128,7 +117,7 @@ compounded_by x o p left (a.Array q) = mismatched x p
 compounded_by x o p left a.Unknown = refuse_if (is_object left) 5 p >> pure (some_assignment x p)
 
 unfoldable pub compounded : Spot → Operator → Pos → Operand → Typing Simple
-compounded l o p i = compounded_by (access l) o p (shape_sort l.shape) i
+compounded l o p i = compounded_by (access l) o p (sort_by (form_at l)) i
 
 -- a left side, which is neither constant nor an input
 abbrev pub left_side : Place → Typing Spot

@@ -1,11 +1,18 @@
 -- The structures that are defined so far, and how many elements an object has.
 use Rattle.std.specs.Prelude.{ℕ, ◌≡◌, ◌+◌, ◌*◌, ◌-◌, ◌^◌, List, [], ◌∷◌, ◌++◌, Bool, true, false, if◌then◌else◌, nat_le, get_or, map, min, length, drop, replicate, slice_get, Option, Some, None}
 use Rattle.sa_typed.specs.declared.program.Var.{Var}
-use Rattle.sa_typed.specs.declared.shape.Shape.{Shape, Scalar, Struct, Array', more_of-Shape, end_of-Shape}
+use Rattle.sa_typed.specs.declared.shape.Plain.{Plain}
+use Rattle.sa_typed.specs.declared.shape.Plain.TheVariants as plain
+use Rattle.sa_typed.specs.declared.shape.Shape.{Shape}
 use Rattle.sa_typed.specs.declared.shape.FieldDef.{FieldDef}
 use Rattle.sa_typed.specs.declared.shape.StructDef.{StructDef}
+use Rattle.sa_typer.specs.declared.form.Form.{Form}
+use Rattle.sa_typer.specs.declared.form.Form.TheVariants as form
 use Rattle.sa_typer.specs.declared.structs.Fields.{Fields}
 use Rattle.sa_typer.specs.declared.structs.Member.{Member}
+use Rattle.sa_typer.specs.declared.structs.Slot.{Slot}
+use Rattle.sa_typer.specs.declared.structs.Slot.TheVariants as item
+use Rattle.sa_typer.specs.Forms.{form_of, inside}
 use Rattle.sa_typer.specs.Scopes.{Scope, index_of}
 
 -- the structures in the order in which their definitions end, and the names of their fields, each with whether it is `const`
@@ -18,11 +25,18 @@ abbrev pub times : Bool → ℕ → ℕ
 times false n = n
 times true n = if nat_le n 128 then n else 1
 
+-- how many elements arrays of such dimensions have, around something that has so many
+unfoldable pub extent : Bool → List ℕ → ℕ → ℕ
+extent starred [] size = size
+extent starred (n ∷ ns) size = times starred n * extent starred ns size
+
+abbrev pub plain_size : List ℕ → Plain → ℕ
+plain_size sizes (plain.Scalar num) = 1
+plain_size sizes (plain.Struct k) = get_or sizes k 0
+
 -- how many elements an object has, where the structures have so many
-unfoldable pub size_by : Bool → List ℕ → Shape → ℕ
-size_by starred sizes (Scalar num) = 1
-size_by starred sizes (Struct k) = get_or sizes k 0
-size_by starred sizes (Array' n (more_of-Shape element end_of-Shape) count) = times starred count * size_by starred sizes element
+abbrev pub size_by : Bool → List ℕ → Shape → ℕ
+size_by starred sizes s = extent starred s.dims (plain_size sizes s.plain)
 
 unfoldable pub sum_by : Bool → List ℕ → List Shape → ℕ
 sum_by starred sizes [] = 0
@@ -69,20 +83,32 @@ abbrev pub shapes_in : Option StructDef → List Shape
 shapes_in None = []
 shapes_in (Some d) = field_shapes d
 
+abbrev pub slots_by : Structs → Shape → Form → List Shape
+slots_by s shape (form.Scalar num) = []
+slots_by s shape (form.Struct k) = shapes_in (slice_get s.defs k)
+slots_by s shape (form.Array n) = replicate n (inside 1 shape)
+
 -- elements or fields, in their order; none where there is a number
 unfoldable pub slots : Structs → Shape → List Shape
-slots s (Scalar num) = []
-slots s (Struct k) = shapes_in (slice_get s.defs k)
-slots s (Array' n (more_of-Shape element end_of-Shape) count) = replicate count element
+slots s shape = slots_by s shape (form_of shape)
 
 -- what the item with that number is for
 unfoldable pub slot : Structs → Shape → ℕ → Option Shape
 slot s shape k = slice_get (slots s shape) k
 
+abbrev pub missing_by : Structs → Shape → Form → ℕ → ℕ
+missing_by s shape (form.Scalar num) k = 1
+missing_by s shape f k = elements_in s (drop k (slots_by s shape f))
+
 -- how many elements there are after so many items; a number has no slot, and is 0 where braces are empty, which no text has
 unfoldable pub missing : Structs → Shape → ℕ → ℕ
-missing s (Scalar num) k = 1
-missing s shape k = elements_in s (drop k (slots s shape))
+missing s shape k = missing_by s shape (form_of shape) k
+
+-- a slot as the code tells it: an element is as many dimensions inside the shape
+abbrev pub shape_at : Shape → Slot → Option Shape
+shape_at s item.Nothing = None
+shape_at s (item.Element n) = Some (inside n s)
+shape_at s (item.Field shape) = Some shape
 
 -- ---- fields
 abbrev pub member_by : ℕ → Option FieldDef → Option Bool → Option Member

@@ -11,7 +11,8 @@ use Rattle.sa_syntax.specs.declared.decl.Qualifier.TheVariants.{Const, Volatile,
 use Rattle.sa_syntax.specs.declared.decl.ScalarWord.{ScalarWord}
 use Rattle.sa_syntax.specs.declared.decl.ScalarWord.TheVariants.{Char, Int, Long, Short, Signed, Unsigned}
 use Rattle.sa_typed.specs.declared.shape.Shape.{Shape}
-use Rattle.sa_typed.specs.declared.shape.Shape.TheVariants as sh
+use Rattle.sa_typed.specs.declared.shape.Plain.{Plain}
+use Rattle.sa_typed.specs.declared.shape.Plain.TheVariants as p
 use Rattle.sa_typer.specs.declared.types.Element.{Element}
 use Rattle.sa_typer.specs.declared.types.Element.TheVariants as el
 use Rattle.sa_typer.specs.declared.types.Named.{Named}
@@ -151,12 +152,11 @@ abbrev pub object : Pos → List Qualified → Typing Ty → Typing Ty
 object p qs base = whole qs base >>= not_void p
 
 -- ---- objects
-abbrev pub element_shape : Element → Shape
-element_shape (el.Scalar num) = sh.Scalar num
-element_shape (el.Struct k) = sh.Struct k
-element_shape _ = sh.Scalar I32
+abbrev pub plain_of : Element → Plain
+plain_of (el.Scalar num) = p.Scalar num
+plain_of (el.Struct k) = p.Struct k
+plain_of _ = p.Scalar I32
 
 -- what has such elements and dimensions, the outermost first (6.7.5.2); what was refused counts as an int
-unfoldable pub shape_of : Element → List ℕ → Shape
-shape_of e [] = element_shape e
-shape_of e (n ∷ ns) = sh.Array (shape_of e ns) n
+abbrev pub shape_of : Element → List ℕ → Shape
+shape_of e dims = record { dims = dims; plain = plain_of e }

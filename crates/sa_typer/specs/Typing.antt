@@ -1,6 +1,6 @@
--- Typing as a walk that carries what it has seen. It never stops: each rule that a part of the tree breaks is noted, and the
--- least refusal of all is kept, by its place and then by the number of its rule. So the order of the walk doesn't matter.
-use Rattle.std.specs.Prelude.{ℕ, List, [], ◌∷◌, ◌≡◌, Result, Ok, Err, ◌==◌, ◌&&◌, ◌||◌, nat_lt, if◌then◌else◌, Bool, true, false, Option, Some, None}
+-- Typing as a walk that carries what it has seen. It never stops: each rule that a part of the tree breaks is noted, and all
+-- refusals are kept. Which of them is told is said of the whole list, so the order of the walk doesn't matter.
+use Rattle.std.specs.Prelude.{ℕ, List, [], ◌∷◌, ◌++◌, ◌≡◌, Result, Ok, Err, Bool, true, false}
 use Rattle.sa_base.specs.declared.pos.Pos.{Pos}
 use Rattle.std.specs.declared.alloc.AllocError.{AllocError as OutOfMemory}
 use Rattle.sa_typer.specs.declared.typer.Fault.{Fault}
@@ -36,19 +36,9 @@ each f (x ∷ xs) a = f x a >>= each f xs
 abbrev pub fault : ℕ → Pos → Fault
 fault rule p = record { pos = p; rule = rule }
 
--- before in the text, or at one place by the lesser number
-unfoldable pub is_before : Fault → Fault → Bool
-is_before a b =
-    nat_lt a.pos.line b.pos.line
-    || (a.pos.line == b.pos.line && (nat_lt a.pos.col b.pos.col || (a.pos.col == b.pos.col && nat_lt a.rule b.rule)))
-
-abbrev pub lesser : Option Fault → Fault → Fault
-lesser None b = b
-lesser (Some a) b = if is_before a b then a else b
-
 -- what was seen, and a refusal by a rule at a place
 unfoldable pub refused : ℕ → Pos → Typer → Typer
-refused rule p s = record s { least = Some (lesser s.least (fault rule p)) }
+refused rule p s = record s { faults = s.faults ++ fault rule p ∷ [] }
 
 abbrev pub refuse : ℕ → Pos → Typing (Unit {0})
 refuse rule p = λ s. Gives tt (refused rule p s)

@@ -33,7 +33,8 @@ use Rattle.sa_typer.specs.Expressions.{structure}
 use Rattle.sa_typer.specs.Lists.{type_of}
 use Rattle.sa_typer.specs.Declarations.{named, declared, is_struct}
 use Rattle.sa_typer.specs.Bodies.{main_block}
-use Rattle.sa_typer.specs.Typing.{Typed, Typing, Gives, ◌>>=◌, ◌>>◌, pure, refuse_if, refused, fault, lesser, each}
+use Rattle.sa_typer.specs.Refusals.{least_of}
+use Rattle.sa_typer.specs.Typing.{Typed, Typing, Gives, ◌>>=◌, ◌>>◌, pure, refuse_if, refused, fault, each}
 
 -- ---- items
 -- a type before a name at file scope, where `volatile` is out of place
@@ -77,7 +78,7 @@ blank = record {
   vars = [];
   inputs = [];
   thresholds = [];
-  least = None;
+  faults = [];
 }
 
 pub data Answer : Type 0 where
@@ -128,21 +129,41 @@ cells s e = cells_in s.structs (map var_shape s.vars) + result_cells (result_of 
 abbrev pub accepted : Typer → Entry → Answer
 accepted s e = if nat_le (cells s e) (limit_number Cells) then Accepts (program s e) else TooManyCells
 
-abbrev pub unless_refused : Option Fault → Typer → Entry → Answer
-unless_refused (Some f) s e = Refuses (refusal f)
-unless_refused None s e = accepted s e
+abbrev pub all_items : Source → Typed (Option Entry)
+all_items u = items u.items None blank
 
--- the text ends there; no main with a clock loop, or with another result, is refused there, after all other refusals
-abbrev pub answer_by : Pos → Option Entry → Typer → Answer
-answer_by end None s = Refuses (refusal (lesser s.least (fault 22 end)))
-answer_by end (Some e) s = if is_entry e then unless_refused s.least s e else Refuses (refusal (lesser s.least (fault 22 end)))
+-- ---- refusals
+-- no main with a clock loop, or one with another result, is refused where the text ends
+abbrev pub has_entry : Option Entry → Bool
+has_entry None = false
+has_entry (Some e) = is_entry e
 
-abbrev pub answered : Pos → Typed (Option Entry) → Answer
-answered end (Gives e s) = answer_by end e s
+abbrev pub refusals_by : Pos → Option Entry → Typer → List Fault
+refusals_by end e s = if has_entry e then s.faults else (s.faults ++ fault 22 end ∷ [])
 
--- the answer to a tree whose text ends there
+abbrev pub refusals_in : Pos → Typed (Option Entry) → List Fault
+refusals_in end (Gives e s) = refusals_by end e s
+
+-- all refusals of a tree whose text ends there
+unfoldable pub refusals : Source → Pos → List Fault
+refusals u end = refusals_in end (all_items u)
+
+-- ---- the answer
+-- where nothing is refused there is a main, so that what is said here of a tree without one is never the answer
+abbrev pub accepted_by : Option Entry → Typer → Answer
+accepted_by None s = TooManyCells
+accepted_by (Some e) s = accepted s e
+
+abbrev pub accepted_in : Typed (Option Entry) → Answer
+accepted_in (Gives e s) = accepted_by e s
+
+abbrev pub unless_refused : Option Fault → Answer → Answer
+unless_refused None a = a
+unless_refused (Some f) a = Refuses (refusal f)
+
+-- the answer to a tree whose text ends there: the least refusal, where there is one
 unfoldable pub answer : Source → Pos → Answer
-answer u end = answered end (items u.items None blank)
+answer u end = unless_refused (least_of (refusals u end)) (accepted_in (all_items u))
 
 -- what typing tells of a source: its program, its least refusal, or that it has too many cells; want of memory says nothing
 abbrev pub Tells : Answer → Result Program TypeFault → Type 0

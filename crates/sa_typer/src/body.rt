@@ -115,20 +115,17 @@ fn clock_loop(item: &BlockItem) -> Option<&[BlockItem]>
 
 // ---- the block
 
-/// An item before which the clock loop doesn't stand.
+/// An item, which may be a clock loop.
 fn main_by(
     alloc: Global,
     typer: &mut Typer,
     one: &BlockItem,
     found: &mut Body,
 ) -> Result<(), OutOfMemory>
-    ensures { Yields (spec.main_by (spec.clock_loop one.now) one.now found.old.stmts typer.old) (given result found.new) typer.new }
+    ensures { Yields (spec.main_by (spec.clock_loop one.now) one.now found.old typer.old) (given result found.new) typer.new }
 {
     match clock_loop(one) {
-        None => {
-            found.clock = false;
-            item(alloc, typer, one, &mut found.stmts)
-        }
+        None => item(alloc, typer, one, &mut found.stmts),
         Some(before) => {
             found.clock = true;
             let stmts = block(alloc, typer, before)?;
@@ -137,6 +134,7 @@ fn main_by(
     }
 }
 
+/// An item of `main`, which is refused where the clock loop stands before it.
 #[tactic(auto, unfolding(crate::specs::Bodies::main_item))]
 fn main_item(
     alloc: Global,
@@ -146,10 +144,7 @@ fn main_item(
 ) -> Result<(), OutOfMemory>
     ensures { Yields (spec.main_item one.now found.old typer.old) (given result found.new) typer.new }
 {
-    if found.clock {
-        typer.refuse(23, item_pos(one));
-        return Ok(());
-    }
+    typer.refuse_if(found.clock, 23, item_pos(one))?;
     main_by(alloc, typer, one, found)
 }
 

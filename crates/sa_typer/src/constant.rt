@@ -4,10 +4,10 @@ ghost use Rattle.std.specs.Prelude.{◌≡◌, IfSome};
 ghost use Rattle.sa_typed.specs.Arithmetic.{IsOf};
 ghost use Rattle.sa_typer.specs.Constants as spec;
 ghost use Rattle.sa_typer.specs.Values as value;
-ghost use Rattle.sa_typer.specs.Typing.{Gives};
+ghost use Rattle.sa_typer.specs.Typing.{Yields};
 
 use crate::typer::Typer;
-use sa_base::{Num, Pos};
+use sa_base::{Num, OutOfMemory, Pos};
 use sa_typed::{Operator, Prefix, common, converted, is_of, promoted};
 use std::marker::Model;
 
@@ -201,15 +201,15 @@ impl Value {
 }
 
 /// The number that a constant expression is, where its value is known; its first token is at that place.
-pub fn needed(typer: &mut Typer, pos: Pos, known: Value) -> Option<i128>
-    ensures { value.constant pos known typer.old ≡ Gives result typer.new }
+pub fn needed(typer: &mut Typer, pos: Pos, known: Value) -> Result<Option<i128>, OutOfMemory>
+    ensures { Yields (value.constant pos known typer.old) result typer.new }
 {
     match known {
         Value::Varies | Value::Errs => {
-            typer.refuse(18, pos);
-            None
+            typer.refuse(18, pos)?;
+            Ok(None)
         }
-        Value::Unknown => None,
-        Value::Is(constant) => Some(constant.value()),
+        Value::Unknown => Ok(None),
+        Value::Is(constant) => Ok(Some(constant.value())),
     }
 }

@@ -2,12 +2,13 @@
 
 ghost use Rattle.std.specs.Prelude.{◌≡◌, ◌∷◌, ◌++◌, [], IfOk};
 ghost use Rattle.sa_typer.specs.Declarations as spec;
-ghost use Rattle.sa_typer.specs.Typing.{Gives, Yields, given};
+ghost use Rattle.sa_typer.specs.Typing.{Yields, given};
 
 use crate::bodies::Beginning;
 use crate::expr::{bounds, expr, object_type};
 use crate::first::{expr_pos, init_pos};
-use crate::initial::{Values, init};
+use crate::form::Form;
+use crate::initial::initial_values;
 use crate::operand::Operand;
 use crate::structs::number;
 use crate::typer::Typer;
@@ -29,8 +30,7 @@ pub fn declare(
     ensures { Yields (spec.named name.now named typer.old) result typer.new }
 {
     if typer.names.contains(name.text.bytes()) {
-        typer.refuse(2, name.pos);
-        return Ok(());
+        return typer.refuse(2, name.pos);
     }
     typer.names.declare(alloc, name.text.bytes(), named)
 }
@@ -134,14 +134,14 @@ fn initial(
     volatile: bool,
     shape: &Shape,
     start: &sa_syntax::Start,
-) -> Result<Values, OutOfMemory>
+) -> Result<Items<i128>, OutOfMemory>
     ensures { Yields (spec.initial volatile shape.now start.now typer.old) result typer.new }
 {
     match start {
-        sa_syntax::Start::Nothing => Ok(Values::new(alloc)),
+        sa_syntax::Start::Nothing => Ok(Items::new(alloc)),
         sa_syntax::Start::Init(_, value) => {
-            typer.refuse_if(volatile, 20, init_pos(value));
-            init(alloc, typer, value, shape, Values::new(alloc))
+            typer.refuse_if(volatile, 20, init_pos(value))?;
+            initial_values(alloc, typer, value, shape)
         }
     }
 }
@@ -163,15 +163,7 @@ fn global_by(
         None => {
             let values = initial(alloc, typer, volatile, &shape, start)?;
             let home = Home::Global;
-            variable(
-                alloc,
-                typer,
-                name,
-                shape,
-                home,
-                ty.constant,
-                values.into_trimmed(),
-            )?;
+            variable(alloc, typer, name, shape, home, ty.constant, values)?;
             Ok(())
         }
     }
@@ -189,7 +181,7 @@ fn global(
 {
     let dimensions = bounds(alloc, typer, declr.declr.bounds.as_slice())?;
     let input_type = input_type(volatile, ty.element, dimensions.as_slice(), &declr.start);
-    let shape = shape_of(alloc, ty.element, dimensions.as_slice())?;
+    let shape = shape_of(ty.element, dimensions);
     global_by(
         alloc,
         typer,
@@ -260,7 +252,7 @@ pub fn declare_globals(
     let words = ty.qualifiers.as_slice();
     let written = object_type(alloc, typer, ty)?;
     let fits = !is_struct(written.element) && are_bare(all);
-    check_qualifiers(typer, fits, true, words);
+    check_qualifiers(typer, fits, true, words)?;
     globals(alloc, typer, has_volatile(words), written, all)
 }
 
@@ -278,19 +270,20 @@ fn begun_with(
     typer: &mut Typer,
     pos: Pos,
     first: Pos,
-    shape: &Shape,
+    form: Form,
     operand: Operand,
-) -> Beginning
-    ensures { spec.begun_with pos first shape.now operand typer.old ≡ Gives result typer.new }
+) -> Result<Beginning, OutOfMemory>
+    ensures { Yields (spec.begun_with pos first form operand typer.old) result typer.new }
 {
-    match shape {
-        Shape::Scalar(_) => {
-            typer.refuse_if(operand.sort().is_object(), 5, pos);
-            beginning(Start::Value(pos, operand.into_expr()), Items::new(alloc))
+    match form {
+        Form::Scalar(_) => {
+            typer.refuse_if(operand.sort().is_object(), 5, pos)?;
+            let start = Start::Value(pos, operand.into_expr());
+            Ok(beginning(start, Items::new(alloc)))
         }
-        Shape::Struct(_) | Shape::Array(_, _) => {
-            typer.refuse(20, first);
-            beginning(Start::Any, Items::new(alloc))
+        Form::Struct(_) | Form::Array(_) => {
+            typer.refuse(20, first)?;
+            Ok(beginning(Start::Any, Items::new(alloc)))
         }
     }
 }
@@ -307,11 +300,12 @@ fn begun_by(
     match value {
         Init::Value(e) => {
             let operand = expr(alloc, typer, e)?;
-            Ok(begun_with(alloc, typer, pos, expr_pos(e), shape, operand))
+            let form = Form::inside(shape, 0);
+            begun_with(alloc, typer, pos, expr_pos(e), form, operand)
         }
         Init::Braces(_, _) => {
-            let values = init(alloc, typer, value, shape, Values::new(alloc))?;
-            Ok(beginning(Start::Items, values.into_trimmed()))
+            let values = initial_values(alloc, typer, value, shape)?;
+            Ok(beginning(Start::Items, values))
         }
     }
 }
@@ -367,7 +361,7 @@ fn local_of(
     ensures { Yields (spec.local_of ty declr.now typer.old) result typer.new }
 {
     let dimensions = bounds(alloc, typer, declr.declr.bounds.as_slice())?;
-    let shape = shape_of(alloc, ty.element, dimensions.as_slice())?;
+    let shape = shape_of(ty.element, dimensions);
     let beginning = begun(alloc, typer, &shape, &declr.start)?;
     local_as(alloc, typer, ty, &declr.declr.name, shape, beginning)
 }
@@ -411,7 +405,7 @@ pub fn declare_locals(
 ) -> Result<(), OutOfMemory>
     ensures { Yields (spec.local local.now found.old typer.old) (given result found.new) typer.new }
 {
-    check_qualifiers(typer, false, true, local.ty.qualifiers.as_slice());
+    check_qualifiers(typer, false, true, local.ty.qualifiers.as_slice())?;
     let ty = object_type(alloc, typer, &local.ty)?;
     locals(alloc, typer, ty, local.declrs.as_slice(), found)
 }

@@ -3,10 +3,10 @@
 ghost use Rattle.std.specs.Prelude.{◌≡◌, false, IfOk, OnOk};
 ghost use Rattle.sa_typer.specs.Scopes.{is_visible};
 ghost use Rattle.sa_typer.specs.Definitions as spec;
-ghost use Rattle.sa_typer.specs.Typing.{Gives, Yields, given};
+ghost use Rattle.sa_typer.specs.Typing.{Yields, given};
 
 use crate::constant::needed;
-use crate::operand::Operand;
+use crate::operand::{Operand, no_object};
 use crate::scope::Scope;
 use crate::structs::Fields;
 use crate::typer::Typer;
@@ -25,17 +25,17 @@ fn is_dimension(value: i128) -> bool
     1 <= value && value <= 16_777_216
 }
 
-fn dimension_by(typer: &mut Typer, pos: Pos, value: Option<i128>) -> u32
-    ensures { spec.dimension_by pos value typer.old ≡ Gives result typer.new }
+fn dimension_by(typer: &mut Typer, pos: Pos, value: Option<i128>) -> Result<u32, OutOfMemory>
+    ensures { Yields (spec.dimension_by pos value typer.old) result typer.new }
 {
     match value {
-        None => 1,
+        None => Ok(1),
         Some(value) => {
             if is_dimension(value) {
-                value as u32
+                Ok(value as u32)
             } else {
-                typer.refuse(19, pos);
-                1
+                typer.refuse(19, pos)?;
+                Ok(1)
             }
         }
     }
@@ -43,10 +43,11 @@ fn dimension_by(typer: &mut Typer, pos: Pos, value: Option<i128>) -> u32
 
 /// A dimension that is such an operand, with its first token at that place.
 #[tactic(auto, unfolding(crate::specs::Definitions::dimension))]
-pub fn dimension(typer: &mut Typer, pos: Pos, operand: &Operand) -> u32
-    ensures { spec.dimension pos operand.now typer.old ≡ Gives result typer.new }
+pub fn dimension(typer: &mut Typer, pos: Pos, operand: &Operand) -> Result<u32, OutOfMemory>
+    ensures { Yields (spec.dimension pos operand.now typer.old) result typer.new }
 {
-    let value = needed(typer, pos, operand.known_value());
+    no_object(typer, operand)?;
+    let value = needed(typer, pos, operand.known_value())?;
     dimension_by(typer, pos, value)
 }
 
@@ -100,16 +101,15 @@ pub fn field(
     typer: &mut Typer,
     name: &Name,
     ty: Ty,
-    dimensions: &[u32],
+    dimensions: Items<u32>,
     fields: &mut Fields,
 ) -> Result<(), OutOfMemory>
-    ensures { Yields (spec.field name.now ty dimensions.now fields.old typer.old) (given result fields.new) typer.new }
+    ensures { Yields (spec.field name.now ty dimensions fields.old typer.old) (given result fields.new) typer.new }
 {
     if is_taken(typer, fields, name.text.bytes()) {
-        typer.refuse(2, name.pos);
-        return Ok(());
+        return typer.refuse(2, name.pos);
     }
-    let shape = shape_of(alloc, ty.element, dimensions)?;
+    let shape = shape_of(ty.element, dimensions);
     fields.declare(alloc, name.text.bytes(), shape, ty.constant)
 }
 
@@ -128,7 +128,7 @@ pub fn open_tag(
         None => Ok(None),
         Some(tag) => {
             if typer.tags.contains(tag.text.bytes()) {
-                typer.refuse(2, tag.pos);
+                typer.refuse(2, tag.pos)?;
                 return Ok(None);
             }
             let at = typer.tags.count();

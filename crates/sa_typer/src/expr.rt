@@ -43,7 +43,7 @@ pub fn expr(alloc: Global, typer: &mut Typer, e: &Expr) -> Result<Operand, OutOf
             prefixed(alloc, typer, prefix_of(*op), *pos, inner)
         }
         Expr::Cast(pos, ty, inner) => {
-            check_qualifiers(typer, false, true, ty.get().qualifiers.as_slice());
+            check_qualifiers(typer, false, true, ty.get().qualifiers.as_slice())?;
             let ty = object_type(alloc, typer, ty.get())?;
             let inner = expr(alloc, typer, inner.get())?;
             cast(alloc, typer, *pos, ty.element, inner)
@@ -135,9 +135,9 @@ fn base_type(alloc: Global, typer: &mut Typer, ty: &Specifiers) -> Result<Ty, Ou
     ensures { Yields (spec.base_type (out-Specifiers ty.now).pos (out-Specifiers ty.now).base typer.old) result typer.new }
 {
     match &ty.base {
-        Base::Scalar(words) => Ok(scalar(typer, ty.pos, num_of(words.as_slice()))),
+        Base::Scalar(words) => scalar(typer, ty.pos, num_of(words.as_slice())),
         Base::Void => Ok(plain(Element::Void)),
-        Base::Tag(tag) => Ok(struct_named(typer, ty.pos, tag)),
+        Base::Tag(tag) => struct_named(typer, ty.pos, tag),
         Base::Struct(body) => structure(alloc, typer, body),
         Base::Named(name) => Ok(type_name(typer, name)),
     }
@@ -160,7 +160,7 @@ pub fn object_type(alloc: Global, typer: &mut Typer, ty: &Specifiers) -> Result<
     ensures { Yields (list.object_type ty.now typer.old) result typer.new }
 {
     let whole = type_of(alloc, typer, ty)?;
-    Ok(not_void(typer, ty.pos, whole))
+    not_void(typer, ty.pos, whole)
 }
 
 /// A structure that is defined.
@@ -201,7 +201,7 @@ fn field_group(
 ) -> Result<(), OutOfMemory>
     ensures { Yields (spec.field group.now found.old typer.old) (given result found.new) typer.new }
 {
-    check_qualifiers(typer, false, false, group.ty.qualifiers.as_slice());
+    check_qualifiers(typer, false, false, group.ty.qualifiers.as_slice())?;
     let ty = object_type(alloc, typer, &group.ty)?;
     declrs(alloc, typer, ty, group.declrs.as_slice(), found)
 }
@@ -235,7 +235,7 @@ fn declr(
     ensures { Yields (spec.declr ty declr.now found.old typer.old) (given result found.new) typer.new }
 {
     let dimensions = bounds(alloc, typer, declr.bounds.as_slice())?;
-    field(alloc, typer, &declr.name, ty, dimensions.as_slice(), found)
+    field(alloc, typer, &declr.name, ty, dimensions, found)
 }
 
 /// The dimensions of a declared name, the outermost first.
@@ -261,6 +261,6 @@ fn bound(
     ensures { Yields (list.bound bound.now found.old typer.old) (given result found.new) typer.new }
 {
     let size = expr(alloc, typer, &bound.size)?;
-    let count = dimension(typer, expr_pos(&bound.size), &size);
+    let count = dimension(typer, expr_pos(&bound.size), &size)?;
     found.push(count)
 }

@@ -1,38 +1,31 @@
 //! Initial values of objects, in the order of their elements.
 
-ghost use Rattle.std.specs.Prelude.{◌≡◌, ◌++◌, ◌∷◌, [], IfOk};
+ghost use Rattle.std.specs.Prelude.{◌≡◌, ◌++◌, ◌∷◌, [], false, ℕ, ℤ, List, IfOk};
+ghost use Rattle.sa_typer.specs.Forms.{inside};
 ghost use Rattle.sa_typer.specs.Initialisers as spec;
-ghost use Rattle.sa_typer.specs.Initialisers.{zeros, trimmed};
-ghost use Rattle.sa_typer.specs.Typing.{Gives, Yields};
+ghost use Rattle.sa_typer.specs.Initialisers.{GivesValues, Stands, zeros, trimmed};
+ghost use Rattle.sa_typer.specs.Structures.{kept};
+ghost use Rattle.sa_typer.specs.Typing.{Yields};
 
 use crate::constant::needed;
 use crate::expr::expr;
 use crate::first::expr_pos;
-use crate::operand::Operand;
+use crate::form::Form;
+use crate::operand::{Operand, no_object};
+use crate::structs::Slot;
 use crate::typer::Typer;
 use sa_base::{Num, OutOfMemory, Pos};
 use sa_syntax::Init;
 use sa_typed::{Shape, is_of};
 use sqlite_items::Items;
 use std::alloc::Global;
-use std::marker::Model;
 
-/// Values, of which the zeros at the end are only counted, so that a large array costs nothing by its size.
+/// Values, of which the zeros at the end are only counted, so that a large array costs nothing by its size. The greatest count
+/// stands for all that are too large; they are written out only where another value follows.
 #[derive(Drop)]
 pub struct Values {
-    written: Items<i128>,
-    skipped: u64,
-}
-
-impl Model for Values {
-    ghost use Rattle.std.specs.Prelude.{◌≡◌, ◌++◌, List, ℤ};
-    ghost use Rattle.sa_typer.specs.Initialisers.{zeros, trimmed};
-
-    ghost Value = { List ℤ };
-
-    ghost view = { λ v. v.written ++ zeros v.skipped };
-
-    ghost invariant = { λ v. trimmed v.written ≡ v.written };
+    pub written: Items<i128>,
+    pub pending: u64,
 }
 
 /// Values with so many zeros after them.
@@ -48,78 +41,66 @@ fn with_zeros(values: Items<i128>, count: u64) -> Result<Items<i128>, OutOfMemor
 
 impl Values {
     /// No values.
-    #[tactic(auto, using(crate::proofs::TrimLemmas::trims))]
-    pub fn new(alloc: Global) -> Values
-        ensures { result ≡ [] }
+    fn new(alloc: Global) -> Values
+        ensures { Stands result [] }
     {
         Values {
             written: Items::new(alloc),
-            skipped: 0,
+            pending: 0,
         }
     }
 
-    /// With so many zeros after them.
-    #[tactic(auto, using(crate::proofs::TrimLemmas::trims))]
-    pub fn skip(self, count: u64) -> Result<Values, OutOfMemory>
-        ensures { IfOk result (λ v. v ≡ self ++ zeros count) }
+    /// With so many zeros after them, given their count or the greatest one where they are more.
+    fn skip(self, count: u64) -> Values
+        ensures { (zs : List ℤ) (n : ℕ) → Stands self zs → count ≡ kept n → Stands result (zs ++ zeros n) }
     {
-        match self.skipped.checked_add(count) {
-            None => Err(OutOfMemory),
-            Some(skipped) => Ok(Values {
-                written: self.written,
-                skipped,
-            }),
+        Values {
+            written: self.written,
+            pending: self.pending.saturating_add(count),
         }
     }
 
-    /// With another value.
-    #[tactic(auto, using(crate::proofs::TrimLemmas::trims))]
-    pub fn push(self, value: i128) -> Result<Values, OutOfMemory>
-        ensures { IfOk result (λ v. v ≡ self ++ value ∷ []) }
+    /// With a value that isn't 0.
+    fn write(self, value: i128) -> Result<Values, OutOfMemory>
+        requires { spec.is_zero value ≡ false }
+        ensures { (zs : List ℤ) → Stands self zs → IfOk result (λ v. Stands v (zs ++ value ∷ [])) }
     {
-        if value == 0 {
-            return self.skip(1);
+        if self.pending == u64::MAX {
+            return Err(OutOfMemory);
         }
-        let mut written = with_zeros(self.written, self.skipped)?;
+        let mut written = with_zeros(self.written, self.pending)?;
         written.push(value)?;
         Ok(Values {
             written,
-            skipped: 0,
+            pending: 0,
         })
     }
 
-    /// The values without the zeros at the end.
-    #[tactic(auto, using(crate::proofs::TrimLemmas::trims))]
-    pub fn into_trimmed(self) -> Items<i128>
-        ensures { result ≡ trimmed self }
+    /// With another value.
+    fn push(self, value: i128) -> Result<Values, OutOfMemory>
+        ensures { (zs : List ℤ) → Stands self zs → IfOk result (λ v. Stands v (zs ++ value ∷ [])) }
     {
-        self.written
+        if value == 0 {
+            Ok(self.skip(1))
+        } else {
+            self.write(value)
+        }
     }
 }
 
 // ---- items
 
-/// An object is no item.
-fn no_object(typer: &mut Typer, operand: &Operand)
-    ensures { spec.no_object operand.now typer.old ≡ Gives result typer.new }
-{
-    match operand {
-        Operand::Struct(_, _, _, pos) | Operand::Array(pos) => typer.refuse(5, *pos),
-        Operand::Number(_, _, _) | Operand::Unknown => {}
-    }
-}
-
-fn within(typer: &mut Typer, pos: Pos, num: Num, value: Option<i128>) -> i128
-    ensures { spec.within pos num value typer.old ≡ Gives result typer.new }
+fn within(typer: &mut Typer, pos: Pos, num: Num, value: Option<i128>) -> Result<i128, OutOfMemory>
+    ensures { Yields (spec.within pos num value typer.old) result typer.new }
 {
     match value {
-        None => 0,
+        None => Ok(0),
         Some(value) => {
             if is_of(num, value) {
-                value
+                Ok(value)
             } else {
-                typer.refuse(20, pos);
-                0
+                typer.refuse(20, pos)?;
+                Ok(0)
             }
         }
     }
@@ -127,81 +108,112 @@ fn within(typer: &mut Typer, pos: Pos, num: Num, value: Option<i128>) -> i128
 
 /// The value of an item for an element of that type, with its first token at that place.
 #[tactic(auto, unfolding(crate::specs::Initialisers::item))]
-fn item(typer: &mut Typer, pos: Pos, num: Num, operand: &Operand) -> i128
-    ensures { spec.item pos num operand.now typer.old ≡ Gives result typer.new }
+fn item(typer: &mut Typer, pos: Pos, num: Num, operand: &Operand) -> Result<i128, OutOfMemory>
+    ensures { Yields (spec.item pos num operand.now typer.old) result typer.new }
 {
-    no_object(typer, operand);
-    let value = needed(typer, pos, operand.known_value());
+    no_object(typer, operand)?;
+    let value = needed(typer, pos, operand.known_value())?;
     within(typer, pos, num, value)
 }
 
 /// An expression for an object, after the values so far.
-#[tactic(auto, unfolding(crate::specs::Initialisers::valued))]
 fn valued(
     typer: &mut Typer,
     pos: Pos,
-    shape: &Shape,
+    form: Form,
     operand: &Operand,
     found: Values,
 ) -> Result<Values, OutOfMemory>
-    ensures { Yields (spec.valued pos shape.now operand.now found typer.old) result typer.new }
+    ensures { (zs : List ℤ) → Stands found zs → GivesValues (spec.valued pos form operand.now zs typer.old) result typer.new }
 {
-    match shape {
-        Shape::Scalar(num) => {
-            let value = item(typer, pos, *num, operand);
+    match form {
+        Form::Scalar(num) => {
+            let value = item(typer, pos, num, operand)?;
             found.push(value)
         }
-        Shape::Struct(_) | Shape::Array(_, _) => {
-            typer.refuse(20, pos);
+        Form::Struct(_) | Form::Array(_) => {
+            typer.refuse(20, pos)?;
             Ok(found)
         }
     }
 }
 
-/// The values of an object's elements, after those so far.
+/// The values of an object's elements, after those so far. The object stands so many dimensions inside a shape.
 #[cycle(initialising)]
-#[tactic(auto, using(crate::proofs::InitRows::init_rows))]
-pub fn init(
+fn init(
     alloc: Global,
     typer: &mut Typer,
     init: &Init,
     shape: &Shape,
+    depth: usize,
     found: Values,
 ) -> Result<Values, OutOfMemory>
-    ensures { Yields (spec.init init.now shape.now found typer.old) result typer.new }
+    ensures { (zs : List ℤ) → Stands found zs → GivesValues (spec.init init.now (inside depth shape.now) zs typer.old) result typer.new }
 {
     match init {
         Init::Value(value) => {
             let operand = expr(alloc, typer, value)?;
-            valued(typer, expr_pos(value), shape, &operand, found)
+            let form = Form::inside(shape, depth);
+            valued(typer, expr_pos(value), form, &operand, found)
         }
-        Init::Braces(pos, all) => items(alloc, typer, all.as_slice(), *pos, shape, found),
+        Init::Braces(pos, all) => items(alloc, typer, all.as_slice(), *pos, shape, depth, found),
     }
 }
 
 /// The items between braces, which stand at that place.
 #[cycle(initialising)]
-#[tactic(auto, using(crate::proofs::InitRows::item_rows))]
 fn items(
     alloc: Global,
     typer: &mut Typer,
     all: &[Init],
     pos: Pos,
     shape: &Shape,
+    depth: usize,
     first: Values,
 ) -> Result<Values, OutOfMemory>
-    ensures { Yields (spec.items all.now pos shape.now 0 first typer.old) result typer.new }
+    ensures { (zs : List ℤ) → Stands first zs → GivesValues (spec.items all.now pos (inside depth shape.now) 0 zs typer.old) result typer.new }
 {
     let mut found = first;
     for (at, one) in all.iter().enumerate() {
-        match typer.structs.slot(alloc, shape, at)? {
-            None => {
-                typer.refuse(20, pos);
-                return Ok(found);
-            }
-            Some(slot) => found = init(alloc, typer, one, &slot, found)?,
-        }
+        found = nth_item(alloc, typer, one, pos, shape, depth, at, found)?;
     }
-    let missing = typer.structs.missing(shape, all.len())?;
-    found.skip(missing)
+    let missing = typer.structs.missing(shape, depth, all.len());
+    Ok(found.skip(missing))
+}
+
+/// The item with that number.
+#[cycle(initialising)]
+fn nth_item(
+    alloc: Global,
+    typer: &mut Typer,
+    one: &Init,
+    pos: Pos,
+    shape: &Shape,
+    depth: usize,
+    at: usize,
+    found: Values,
+) -> Result<Values, OutOfMemory>
+    ensures { (zs : List ℤ) → Stands found zs → GivesValues (spec.nth_item one.now pos (inside depth shape.now) at zs typer.old) result typer.new }
+{
+    match typer.structs.slot(alloc, shape, depth, at)? {
+        Slot::Nothing => {
+            typer.refuse(20, pos)?;
+            Ok(found)
+        }
+        Slot::Element(deeper) => init(alloc, typer, one, shape, deeper, found),
+        Slot::Field(inner) => init(alloc, typer, one, &inner, 0, found),
+    }
+}
+
+/// The values of an object that an initialiser gives, without the zeros at the end.
+pub fn initial_values(
+    alloc: Global,
+    typer: &mut Typer,
+    first: &Init,
+    shape: &Shape,
+) -> Result<Items<i128>, OutOfMemory>
+    ensures { Yields (spec.values first.now shape.now typer.old) result typer.new }
+{
+    let found = init(alloc, typer, first, shape, 0, Values::new(alloc))?;
+    Ok(found.written)
 }

@@ -2,7 +2,7 @@
 
 ghost use Rattle.std.specs.Prelude.{◌≡◌, IfOk};
 ghost use Rattle.sa_typer.specs.Operands as spec;
-ghost use Rattle.sa_typer.specs.Typing.{Gives, Yields};
+ghost use Rattle.sa_typer.specs.Typing.{Yields};
 
 use crate::constant::{Value, literal_value, working};
 use crate::typer::Typer;
@@ -54,13 +54,15 @@ pub enum Root {
     Nothing,
 }
 
-/// A place as far as it is typed: what it begins with and where that name stands, what is there, where that is known, whether
-/// it may not be assigned to, the steps, and whether all indices are constant expressions.
+/// A place as far as it is typed: what it begins with and where that name stands; the shape of the variable or of the field
+/// that was stepped to last, where that is known, and how many of its dimensions were stepped into since; whether it may not be
+/// assigned to, the steps, and whether all indices are constant expressions.
 #[derive(Drop)]
 pub struct Spot {
     pub root: Root,
     pub name: Pos,
     pub shape: Option<Shape>,
+    pub depth: usize,
     pub locked: bool,
     pub steps: Items<Step>,
     pub fixed: bool,
@@ -119,6 +121,16 @@ impl Operand {
             Operand::Number(expr, _, _) => expr,
             _ => stand_in(),
         }
+    }
+}
+
+/// Refuses a structure or an array where a number is needed and no operator takes it.
+pub fn no_object(typer: &mut Typer, operand: &Operand) -> Result<(), OutOfMemory>
+    ensures { Yields (spec.no_object operand.now typer.old) result typer.new }
+{
+    match operand {
+        Operand::Struct(_, _, _, pos) | Operand::Array(pos) => typer.refuse(5, *pos),
+        Operand::Number(_, _, _) | Operand::Unknown => Ok(()),
     }
 }
 
@@ -225,11 +237,11 @@ pub fn prefix_of(op: sa_syntax::Prefix) -> Prefix
 }
 
 /// The result of a cast or an operator at that place whose operand is of a sort other than a number.
-fn no_number(typer: &mut Typer, pos: Pos, sort: Sort) -> Operand
-    ensures { spec.no_number pos sort typer.old ≡ Gives result typer.new }
+fn no_number(typer: &mut Typer, pos: Pos, sort: Sort) -> Result<Operand, OutOfMemory>
+    ensures { Yields (spec.no_number pos sort typer.old) result typer.new }
 {
-    typer.refuse_if(sort.is_object(), 5, pos);
-    some_number()
+    typer.refuse_if(sort.is_object(), 5, pos)?;
+    Ok(some_number())
 }
 
 /// An operator, which works in that type, before a number.
@@ -278,10 +290,8 @@ pub fn prefixed(
         Operand::Number(expr, num, value) => {
             prefixed_number(alloc, op, pos, expr, promoted(num), value)
         }
-        Operand::Struct(_, _, _, _) | Operand::Array(_) => {
-            Ok(no_number(typer, pos, Sort::Object))
-        }
-        Operand::Unknown => Ok(no_number(typer, pos, Sort::Unknown)),
+        Operand::Struct(_, _, _, _) | Operand::Array(_) => no_number(typer, pos, Sort::Object),
+        Operand::Unknown => no_number(typer, pos, Sort::Unknown),
     }
 }
 
@@ -296,19 +306,19 @@ fn cast_to(
 {
     match operand {
         Operand::Number(expr, _, value) => cast_number(alloc, pos, num, expr, value),
-        Operand::Struct(_, _, _, _) | Operand::Array(_) => {
-            Ok(no_number(typer, pos, Sort::Object))
-        }
-        Operand::Unknown => Ok(no_number(typer, pos, Sort::Unknown)),
+        Operand::Struct(_, _, _, _) | Operand::Array(_) => no_number(typer, pos, Sort::Object),
+        Operand::Unknown => no_number(typer, pos, Sort::Unknown),
     }
 }
 
 /// A cast to what is no whole-number type.
-fn miscast(typer: &mut Typer, pos: Pos, operand: &Operand) -> Operand
-    ensures { spec.miscast pos operand.now typer.old ≡ Gives result typer.new }
+fn miscast(typer: &mut Typer, pos: Pos, operand: &Operand) -> Result<Operand, OutOfMemory>
+    ensures { Yields (spec.miscast pos operand.now typer.old) result typer.new }
 {
     match operand {
-        Operand::Number(_, _, value) => { Operand::Number(stand_in(), Num::I32, value.miscast()) }
+        Operand::Number(_, _, value) => {
+            Ok(Operand::Number(stand_in(), Num::I32, value.miscast()))
+        }
         _ => no_number(typer, pos, operand.sort()),
     }
 }
@@ -327,10 +337,10 @@ pub fn cast(
     match element {
         Element::Scalar(num) => cast_to(alloc, typer, pos, num, operand),
         Element::Struct(_) => {
-            typer.refuse(5, pos);
-            Ok(miscast(typer, pos, &operand))
+            typer.refuse(5, pos)?;
+            miscast(typer, pos, &operand)
         }
-        Element::Void | Element::Unknown => Ok(miscast(typer, pos, &operand)),
+        Element::Void | Element::Unknown => miscast(typer, pos, &operand),
     }
 }
 
@@ -458,17 +468,17 @@ pub fn linked(
                 linked_by(alloc, operator_of(op), pos, left, before, expr, num, value)
             }
             Sort::Object => {
-                typer.refuse(5, pos);
+                typer.refuse(5, pos)?;
                 Ok(some_left(alloc))
             }
             Sort::Unknown => Ok(some_left(alloc)),
         },
         Operand::Struct(_, _, _, _) | Operand::Array(_) => {
-            typer.refuse(5, pos);
+            typer.refuse(5, pos)?;
             Ok(some_left(alloc))
         }
         Operand::Unknown => {
-            typer.refuse_if(left.sort.is_object(), 5, pos);
+            typer.refuse_if(left.sort.is_object(), 5, pos)?;
             Ok(some_left(alloc))
         }
     }

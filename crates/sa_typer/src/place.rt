@@ -3,11 +3,12 @@
 ghost use Rattle.std.specs.Prelude.{◌≡◌, IfOk};
 ghost use Rattle.std.specs.Option.{option_copied};
 ghost use Rattle.sa_typer.specs.Places as spec;
-ghost use Rattle.sa_typer.specs.Typing.{Gives, Yields};
+ghost use Rattle.sa_typer.specs.Typing.{Yields};
 
 use crate::constant::Value;
+use crate::form::{Form, copy_shape, scalar};
 use crate::operand::{Operand, Root, Spot};
-use crate::structs::{Member, copy_shape};
+use crate::structs::Member;
 use crate::typer::Typer;
 use crate::types::Named;
 use sa_base::{Num, OutOfMemory, Pos};
@@ -18,43 +19,53 @@ use std::alloc::Global;
 
 // ---- where a place begins
 
-fn root_by(typer: &mut Typer, pos: Pos, named: Option<Named>) -> Root
-    ensures { spec.root_by pos named typer.old ≡ Gives result typer.new }
+fn root_by(typer: &mut Typer, pos: Pos, named: Option<Named>) -> Result<Root, OutOfMemory>
+    ensures { Yields (spec.root_by pos named typer.old) result typer.new }
 {
     match named {
         None => {
-            typer.refuse(1, pos);
-            Root::Nothing
+            typer.refuse(1, pos)?;
+            Ok(Root::Nothing)
         }
-        Some(Named::Variable(number)) => Root::Variable(number),
-        Some(Named::Input(number, num)) => Root::Input(number, num),
+        Some(Named::Variable(number)) => Ok(Root::Variable(number)),
+        Some(Named::Input(number, num)) => Ok(Root::Input(number, num)),
         Some(Named::Alias(_) | Named::Function) => {
-            typer.refuse(5, pos);
-            Root::Nothing
+            typer.refuse(5, pos)?;
+            Ok(Root::Nothing)
         }
     }
 }
 
-fn root_of(typer: &mut Typer, name: &Name) -> Root
-    ensures { spec.root_of name.now typer.old ≡ Gives result typer.new }
+fn root_of(typer: &mut Typer, name: &Name) -> Result<Root, OutOfMemory>
+    ensures { Yields (spec.root_of name.now typer.old) result typer.new }
 {
     let named = typer.names.meaning(name.text.bytes());
     root_by(typer, name.pos, named)
 }
 
-fn pointed_by(typer: &mut Typer, star: Pos, pos: Pos, named: Option<Named>) -> Root
-    ensures { spec.pointed_by star pos named typer.old ≡ Gives result typer.new }
+fn pointed_by(
+    typer: &mut Typer,
+    star: Pos,
+    pos: Pos,
+    named: Option<Named>,
+) -> Result<Root, OutOfMemory>
+    ensures { Yields (spec.pointed_by star pos named typer.old) result typer.new }
 {
     match named {
-        None => typer.refuse(1, pos),
-        Some(_) => typer.refuse(5, star),
+        None => {
+            typer.refuse(1, pos)?;
+            Ok(Root::Nothing)
+        }
+        Some(_) => {
+            typer.refuse(5, star)?;
+            Ok(Root::Nothing)
+        }
     }
-    Root::Nothing
 }
 
 /// No name is that of a reference.
-fn pointed(typer: &mut Typer, star: Pos, name: &Name) -> Root
-    ensures { spec.pointed star name.now typer.old ≡ Gives result typer.new }
+fn pointed(typer: &mut Typer, star: Pos, name: &Name) -> Result<Root, OutOfMemory>
+    ensures { Yields (spec.pointed star name.now typer.old) result typer.new }
 {
     let named = typer.names.meaning(name.text.bytes());
     pointed_by(typer, star, name.pos, named)
@@ -67,6 +78,7 @@ fn spot_at(alloc: Global, name: Pos, root: Root, shape: Option<Shape>, locked: b
         root,
         name,
         shape,
+        depth: 0,
         locked,
         steps: Items::new(alloc),
         fixed: true,
@@ -92,7 +104,10 @@ fn spot_of(alloc: Global, typer: &Typer, pos: Pos, root: Root) -> Result<Spot, O
 {
     match root {
         Root::Variable(number) => variable_at(alloc, pos, number, typer.vars.get(number as usize)),
-        Root::Input(_, num) => Ok(spot_at(alloc, pos, root, Some(Shape::Scalar(num)), true)),
+        Root::Input(_, num) => {
+            let shape = Some(scalar(alloc, num));
+            Ok(spot_at(alloc, pos, root, shape, true))
+        }
         Root::Nothing => Ok(spot_at(alloc, pos, root, None, false)),
     }
 }
@@ -104,11 +119,11 @@ pub fn begins(alloc: Global, typer: &mut Typer, base: &PlaceBase) -> Result<Spot
 {
     match base {
         PlaceBase::Name(name) => {
-            let root = root_of(typer, name);
+            let root = root_of(typer, name)?;
             spot_of(alloc, typer, name.pos, root)
         }
         PlaceBase::Through(_, star, name) | PlaceBase::Star(star, name) => {
-            let root = pointed(typer, *star, name);
+            let root = pointed(typer, *star, name)?;
             spot_of(alloc, typer, name.pos, root)
         }
     }
@@ -117,59 +132,45 @@ pub fn begins(alloc: Global, typer: &mut Typer, base: &PlaceBase) -> Result<Spot
 // ---- steps
 
 impl Spot {
+    /// What stands there at the outside, where that is known.
+    pub fn form(&self) -> Option<Form>
+        ensures { result ≡ spec.form_at self.now }
+    {
+        match &self.shape {
+            None => None,
+            Some(shape) => Some(Form::inside(shape, self.depth)),
+        }
+    }
+
     /// A step to what isn't known.
-    fn lost(self, step: Step) -> Result<Spot, OutOfMemory>
+    fn lost(mut self, step: Step) -> Result<Spot, OutOfMemory>
         ensures { IfOk result (λ l. l ≡ spec.lost step self) }
     {
-        let mut steps = self.steps;
-        steps.push(step)?;
-        Ok(Spot {
-            root: self.root,
-            name: self.name,
-            shape: None,
-            locked: self.locked,
-            steps,
-            fixed: self.fixed,
-        })
+        self.steps.push(step)?;
+        self.shape = None;
+        Ok(self)
     }
 
-    /// A step to an element or a field.
-    fn stepped(self, step: Step, shape: Shape, locked: bool) -> Result<Spot, OutOfMemory>
+    /// A step to an element.
+    fn deeper(mut self, step: Step) -> Result<Spot, OutOfMemory>
+        ensures { IfOk result (λ l. l ≡ spec.deeper step self) }
+    {
+        // No memory holds so many dimensions.
+        let depth = self.depth.checked_add(1).ok_or(OutOfMemory)?;
+        self.steps.push(step)?;
+        self.depth = depth;
+        Ok(self)
+    }
+
+    /// A step to a field.
+    fn stepped(mut self, step: Step, shape: Shape, locked: bool) -> Result<Spot, OutOfMemory>
         ensures { IfOk result (λ l. l ≡ spec.stepped step shape locked self) }
     {
-        let mut steps = self.steps;
-        steps.push(step)?;
-        Ok(Spot {
-            root: self.root,
-            name: self.name,
-            shape: Some(shape),
-            locked,
-            steps,
-            fixed: self.fixed,
-        })
-    }
-}
-
-fn element(
-    alloc: Global,
-    typer: &mut Typer,
-    pos: Pos,
-    index: Expr,
-    shape: Shape,
-    spot: Spot,
-) -> Result<Spot, OutOfMemory>
-    ensures { Yields (spec.element pos index shape spot typer.old) result typer.new }
-{
-    match shape {
-        Shape::Array(inner, count) => {
-            let step = Step::At(pos, count, Boxed::new(alloc, index)?);
-            let locked = spot.locked;
-            spot.stepped(step, inner.into_inner(), locked)
-        }
-        Shape::Scalar(_) | Shape::Struct(_) => {
-            typer.refuse(5, pos);
-            spot.lost(Step::At(pos, 1, Boxed::new(alloc, index)?))
-        }
+        self.steps.push(step)?;
+        self.shape = Some(shape);
+        self.depth = 0;
+        self.locked = locked;
+        Ok(self)
     }
 }
 
@@ -178,14 +179,18 @@ fn element_of(
     typer: &mut Typer,
     pos: Pos,
     index: Expr,
-    shape: Option<Shape>,
+    form: Option<Form>,
     spot: Spot,
 ) -> Result<Spot, OutOfMemory>
-    ensures { Yields (spec.element_of pos index shape spot typer.old) result typer.new }
+    ensures { Yields (spec.element_of pos index form spot typer.old) result typer.new }
 {
-    match shape {
+    match form {
         None => spot.lost(Step::At(pos, 1, Boxed::new(alloc, index)?)),
-        Some(shape) => element(alloc, typer, pos, index, shape, spot),
+        Some(Form::Array(count)) => spot.deeper(Step::At(pos, count, Boxed::new(alloc, index)?)),
+        Some(Form::Scalar(_) | Form::Struct(_)) => {
+            typer.refuse(5, pos)?;
+            spot.lost(Step::At(pos, 1, Boxed::new(alloc, index)?))
+        }
     }
 }
 
@@ -200,10 +205,10 @@ pub fn index(
 ) -> Result<Spot, OutOfMemory>
     ensures { Yields (spec.index pos operand spot typer.old) result typer.new }
 {
-    typer.refuse_if(operand.sort().is_object(), 5, pos);
+    typer.refuse_if(operand.sort().is_object(), 5, pos)?;
     spot.fixed = spot.fixed && operand.known_value().is_constant();
-    let shape = spot.shape.take();
-    element_of(alloc, typer, pos, operand.into_expr(), shape, spot)
+    let form = spot.form();
+    element_of(alloc, typer, pos, operand.into_expr(), form, spot)
 }
 
 fn to_member(
@@ -216,7 +221,7 @@ fn to_member(
 {
     match member {
         None => {
-            typer.refuse(4, pos);
+            typer.refuse(4, pos)?;
             spot.lost(Step::Field(0))
         }
         Some(member) => {
@@ -226,41 +231,26 @@ fn to_member(
     }
 }
 
-fn field_in(
-    alloc: Global,
-    typer: &mut Typer,
-    pos: Pos,
-    name: &Name,
-    shape: Shape,
-    spot: Spot,
-) -> Result<Spot, OutOfMemory>
-    ensures { Yields (spec.field_in pos name.now shape spot typer.old) result typer.new }
-{
-    match shape {
-        Shape::Struct(number) => {
-            let member = typer.structs.member(alloc, number, name.text.bytes())?;
-            to_member(typer, name.pos, member, spot)
-        }
-        Shape::Scalar(_) | Shape::Array(_, _) => {
-            typer.refuse(5, pos);
-            spot.lost(Step::Field(0))
-        }
-    }
-}
-
 fn field_of(
     alloc: Global,
     typer: &mut Typer,
     pos: Pos,
     name: &Name,
-    shape: Option<Shape>,
+    form: Option<Form>,
     spot: Spot,
 ) -> Result<Spot, OutOfMemory>
-    ensures { Yields (spec.field_of pos name.now shape spot typer.old) result typer.new }
+    ensures { Yields (spec.field_of pos name.now form spot typer.old) result typer.new }
 {
-    match shape {
+    match form {
         None => spot.lost(Step::Field(0)),
-        Some(shape) => field_in(alloc, typer, pos, name, shape, spot),
+        Some(Form::Struct(number)) => {
+            let member = typer.structs.member(alloc, number, name.text.bytes())?;
+            to_member(typer, name.pos, member, spot)
+        }
+        Some(Form::Scalar(_) | Form::Array(_)) => {
+            typer.refuse(5, pos)?;
+            spot.lost(Step::Field(0))
+        }
     }
 }
 
@@ -271,12 +261,12 @@ pub fn field(
     typer: &mut Typer,
     pos: Pos,
     name: &Name,
-    mut spot: Spot,
+    spot: Spot,
 ) -> Result<Spot, OutOfMemory>
     ensures { Yields (spec.field pos name.now spot typer.old) result typer.new }
 {
-    let shape = spot.shape.take();
-    field_of(alloc, typer, pos, name, shape, spot)
+    let form = spot.form();
+    field_of(alloc, typer, pos, name, form, spot)
 }
 
 fn is_known(shape: &Option<Shape>) -> bool
@@ -290,7 +280,7 @@ fn is_known(shape: &Option<Shape>) -> bool
 pub fn arrow(typer: &mut Typer, pos: Pos, spot: Spot) -> Result<Spot, OutOfMemory>
     ensures { Yields (spec.arrow pos spot typer.old) result typer.new }
 {
-    typer.refuse_if(is_known(&spot.shape), 5, pos);
+    typer.refuse_if(is_known(&spot.shape), 5, pos)?;
     spot.lost(Step::Field(0))
 }
 
@@ -329,17 +319,17 @@ fn reading(root: Root, steps: Items<Step>, num: Num) -> Expr
 pub fn operand(spot: Spot) -> Operand
     ensures { result ≡ spec.operand spot }
 {
-    match spot.shape {
+    match spot.form() {
         None => Operand::Unknown,
-        Some(Shape::Scalar(num)) => {
+        Some(Form::Scalar(num)) => {
             Operand::Number(reading(spot.root, spot.steps, num), num, Value::Varies)
         }
-        Some(Shape::Struct(number)) => Operand::Struct(
+        Some(Form::Struct(number)) => Operand::Struct(
             access_of(spot.root, spot.steps),
             number,
             spot.fixed,
             spot.name,
         ),
-        Some(Shape::Array(_, _)) => Operand::Array(spot.name),
+        Some(Form::Array(_)) => Operand::Array(spot.name),
     }
 }

@@ -10,12 +10,13 @@ use crate::constant::{Value, working};
 use crate::declaration::declare_locals;
 use crate::expr::{expr, spot};
 use crate::first::place_pos;
+use crate::form::Form;
 use crate::operand::{Operand, Sort, Spot, stand_in};
 use crate::place::access_of;
 use crate::typer::Typer;
 use sa_base::{Num, OutOfMemory, Pos};
 use sa_syntax::{Block, BlockItem, Compound, Directive, Place, Turn};
-use sa_typed::{Access, Expr, Operator, Shape, Simple, Stmt};
+use sa_typed::{Access, Expr, Operator, Simple, Stmt};
 use sqlite_items::Items;
 use std::alloc::Global;
 
@@ -27,20 +28,26 @@ fn some_assignment(access: Access, pos: Pos) -> Simple
     Simple::Assign(access, Num::I32, pos, stand_in())
 }
 
-fn mismatched(typer: &mut Typer, access: Access, pos: Pos) -> Simple
-    ensures { spec.mismatched access pos typer.old ≡ Gives result typer.new }
+fn mismatched(typer: &mut Typer, access: Access, pos: Pos) -> Result<Simple, OutOfMemory>
+    ensures { Yields (spec.mismatched access pos typer.old) result typer.new }
 {
-    typer.refuse(5, pos);
-    some_assignment(access, pos)
+    typer.refuse(5, pos)?;
+    Ok(some_assignment(access, pos))
 }
 
-fn to_number(typer: &mut Typer, access: Access, num: Num, pos: Pos, operand: Operand) -> Simple
-    ensures { spec.to_number access num pos operand typer.old ≡ Gives result typer.new }
+fn to_number(
+    typer: &mut Typer,
+    access: Access,
+    num: Num,
+    pos: Pos,
+    operand: Operand,
+) -> Result<Simple, OutOfMemory>
+    ensures { Yields (spec.to_number access num pos operand typer.old) result typer.new }
 {
     match operand {
-        Operand::Number(expr, _, _) => Simple::Assign(access, num, pos, expr),
+        Operand::Number(expr, _, _) => Ok(Simple::Assign(access, num, pos, expr)),
         Operand::Struct(_, _, _, _) | Operand::Array(_) => mismatched(typer, access, pos),
-        Operand::Unknown => some_assignment(access, pos),
+        Operand::Unknown => Ok(some_assignment(access, pos)),
     }
 }
 
@@ -52,41 +59,36 @@ fn to_struct(
     number: u32,
     pos: Pos,
     operand: Operand,
-) -> Simple
-    ensures { spec.to_struct access fixed number pos operand typer.old ≡ Gives result typer.new }
+) -> Result<Simple, OutOfMemory>
+    ensures { Yields (spec.to_struct access fixed number pos operand typer.old) result typer.new }
 {
     match operand {
         Operand::Number(_, _, _) | Operand::Array(_) => mismatched(typer, access, pos),
         Operand::Struct(from, other, from_fixed, _) => {
-            typer.refuse_if(!(number == other && fixed && from_fixed), 7, pos);
-            Simple::Copy(number, access, pos, from)
+            typer.refuse_if(!(number == other && fixed && from_fixed), 7, pos)?;
+            Ok(Simple::Copy(number, access, pos, from))
         }
-        Operand::Unknown => some_assignment(access, pos),
+        Operand::Unknown => Ok(some_assignment(access, pos)),
     }
 }
 
-fn to_array(typer: &mut Typer, access: Access, pos: Pos, sort: Sort) -> Simple
-    ensures { spec.to_array access pos sort typer.old ≡ Gives result typer.new }
-{
-    match sort {
-        Sort::Unknown => some_assignment(access, pos),
-        Sort::Number(_) | Sort::Object => mismatched(typer, access, pos),
-    }
-}
-
-/// An assignment, with the place of the `=`.
+/// An assignment, with the place of the `=`. An array isn't assigned to, whatever stands at the right.
 #[tactic(auto, unfolding(crate::specs::Statements::assigned))]
-fn assigned(typer: &mut Typer, spot: Spot, pos: Pos, operand: Operand) -> Simple
-    ensures { spec.assigned spot pos operand typer.old ≡ Gives result typer.new }
+fn assigned(
+    typer: &mut Typer,
+    spot: Spot,
+    pos: Pos,
+    operand: Operand,
+) -> Result<Simple, OutOfMemory>
+    ensures { Yields (spec.assigned spot pos operand typer.old) result typer.new }
 {
+    let form = spot.form();
     let access = access_of(spot.root, spot.steps);
-    match spot.shape {
-        None => some_assignment(access, pos),
-        Some(Shape::Scalar(num)) => to_number(typer, access, num, pos, operand),
-        Some(Shape::Struct(number)) => {
-            to_struct(typer, access, spot.fixed, number, pos, operand)
-        }
-        Some(Shape::Array(_, _)) => to_array(typer, access, pos, operand.sort()),
+    match form {
+        None => Ok(some_assignment(access, pos)),
+        Some(Form::Scalar(num)) => to_number(typer, access, num, pos, operand),
+        Some(Form::Struct(number)) => { to_struct(typer, access, spot.fixed, number, pos, operand) }
+        Some(Form::Array(_)) => mismatched(typer, access, pos),
     }
 }
 
@@ -124,13 +126,13 @@ fn one() -> Operand
     Operand::Number(Expr::Number(1, Num::I32), Num::I32, Value::Varies)
 }
 
-fn shape_sort(shape: &Option<Shape>) -> Sort
-    ensures { result ≡ spec.shape_sort shape.now }
+fn sort_by(form: Option<Form>) -> Sort
+    ensures { result ≡ spec.sort_by form }
 {
-    match shape {
+    match form {
         None => Sort::Unknown,
-        Some(Shape::Scalar(num)) => Sort::Number(*num),
-        Some(Shape::Struct(_) | Shape::Array(_, _)) => Sort::Object,
+        Some(Form::Scalar(num)) => Sort::Number(num),
+        Some(Form::Struct(_) | Form::Array(_)) => Sort::Object,
     }
 }
 
@@ -142,28 +144,36 @@ fn compounded_by(
     pos: Pos,
     left: Sort,
     operand: Operand,
-) -> Simple
-    ensures { spec.compounded_by access op pos left operand typer.old ≡ Gives result typer.new }
+) -> Result<Simple, OutOfMemory>
+    ensures { Yields (spec.compounded_by access op pos left operand typer.old) result typer.new }
 {
     match operand {
         Operand::Number(expr, from, _) => match left {
-            Sort::Number(to) => Simple::Compound(access, to, op, pos, working(op, to, from), expr),
+            Sort::Number(to) => {
+                Ok(Simple::Compound(access, to, op, pos, working(op, to, from), expr))
+            }
             Sort::Object => mismatched(typer, access, pos),
-            Sort::Unknown => some_assignment(access, pos),
+            Sort::Unknown => Ok(some_assignment(access, pos)),
         },
         Operand::Struct(_, _, _, _) | Operand::Array(_) => mismatched(typer, access, pos),
         Operand::Unknown => {
-            typer.refuse_if(left.is_object(), 5, pos);
-            some_assignment(access, pos)
+            typer.refuse_if(left.is_object(), 5, pos)?;
+            Ok(some_assignment(access, pos))
         }
     }
 }
 
 #[tactic(auto, unfolding(crate::specs::Statements::compounded))]
-fn compounded(typer: &mut Typer, spot: Spot, op: Operator, pos: Pos, operand: Operand) -> Simple
-    ensures { spec.compounded spot op pos operand typer.old ≡ Gives result typer.new }
+fn compounded(
+    typer: &mut Typer,
+    spot: Spot,
+    op: Operator,
+    pos: Pos,
+    operand: Operand,
+) -> Result<Simple, OutOfMemory>
+    ensures { Yields (spec.compounded spot op pos operand typer.old) result typer.new }
 {
-    let left = shape_sort(&spot.shape);
+    let left = sort_by(spot.form());
     let access = access_of(spot.root, spot.steps);
     compounded_by(typer, access, op, pos, left, operand)
 }
@@ -173,7 +183,7 @@ fn left_side(alloc: Global, typer: &mut Typer, place: &Place) -> Result<Spot, Ou
     ensures { Yields (spec.left_side place.now typer.old) result typer.new }
 {
     let spot = spot(alloc, typer, place)?;
-    typer.refuse_if(spot.locked, 6, place_pos(place));
+    typer.refuse_if(spot.locked, 6, place_pos(place))?;
     Ok(spot)
 }
 
@@ -189,20 +199,20 @@ pub fn simple(
         sa_syntax::Simple::Assign(place, pos, value) => {
             let left = left_side(alloc, typer, place)?;
             let operand = expr(alloc, typer, value)?;
-            Ok(assigned(typer, left, *pos, operand))
+            assigned(typer, left, *pos, operand)
         }
         sa_syntax::Simple::Compound(place, op, pos, value) => {
             let left = left_side(alloc, typer, place)?;
             let operand = expr(alloc, typer, value)?;
-            Ok(compounded(typer, left, compound_of(*op), *pos, operand))
+            compounded(typer, left, compound_of(*op), *pos, operand)
         }
         sa_syntax::Simple::After(place, turn, pos) => {
             let left = left_side(alloc, typer, place)?;
-            Ok(compounded(typer, left, turn_of(*turn), *pos, one()))
+            compounded(typer, left, turn_of(*turn), *pos, one())
         }
         sa_syntax::Simple::Before(turn, pos, place) => {
             let left = left_side(alloc, typer, place)?;
-            Ok(compounded(typer, left, turn_of(*turn), *pos, one()))
+            compounded(typer, left, turn_of(*turn), *pos, one())
         }
     }
 }
@@ -217,11 +227,12 @@ pub fn leave(typer: &mut Typer, names: usize, tags: usize)
     typer.tags.truncate(tags);
 }
 
-fn directive(typer: &mut Typer, pos: Pos, directive: &Directive)
-    ensures { spec.directive pos directive.now typer.old ≡ Gives result typer.new }
+fn directive(typer: &mut Typer, pos: Pos, directive: &Directive) -> Result<(), OutOfMemory>
+    ensures { Yields (spec.directive pos directive.now typer.old) result typer.new }
 {
-    if matches!(directive, Directive::Wait) {
-        typer.refuse(23, pos);
+    match directive {
+        Directive::Wait => typer.refuse(23, pos),
+        Directive::Partition | Directive::KnownFact(_) | Directive::Assert(_) => Ok(()),
     }
 }
 
@@ -245,10 +256,7 @@ fn stmt(
             let typed = simple(alloc, typer, inner)?;
             found.push(Stmt::Simple(typed))
         }
-        sa_syntax::Stmt::Directive(pos, inner) => {
-            directive(typer, *pos, inner);
-            Ok(())
-        }
+        sa_syntax::Stmt::Directive(pos, inner) => { directive(typer, *pos, inner) }
         sa_syntax::Stmt::Empty(_)
         | sa_syntax::Stmt::Gives(_, _, _)
         | sa_syntax::Stmt::Call(_)

@@ -1,13 +1,16 @@
 //! The structures that are defined so far.
 
-ghost use Rattle.std.specs.Prelude.{◌≡◌, true, ◌++◌, ◌∷◌, [], IfOk, OnOk, OnErr, slice_get, List, ℕ, map, get_or, length, drop, option_map, ◌-◌};
+ghost use Rattle.std.specs.Prelude.{◌≡◌, true, ◌++◌, ◌∷◌, [], IfOk, OnOk, OnErr, slice_get, List, ℕ, map, get_or, length, drop, replicate, option_map, false, ◌-◌, ◌+◌, ◌<◌};
+ghost use Rattle.sa_typed.specs.declared.shape.Shape.{Shape};
+ghost use Rattle.sa_typer.specs.Forms.{inside};
 ghost use Rattle.std.specs.Option.{option_copied};
 ghost use Rattle.sa_typer.specs.Structures as spec;
 
+use crate::form::{Form, copy_shape};
 use crate::scope::Scope;
 use sa_base::{OutOfMemory, Text};
-use sa_typed::{FieldDef, Shape, StructDef, Var};
-use sqlite_items::{Boxed, Items};
+use sa_typed::{FieldDef, Plain, Shape, StructDef, Var};
+use sqlite_items::Items;
 use std::alloc::Global;
 use std::marker::Model;
 
@@ -63,18 +66,15 @@ pub fn number(count: usize) -> Result<u32, OutOfMemory>
     }
 }
 
-/// A copy of a shape.
-pub fn copy_shape(alloc: Global, shape: &Shape) -> Result<Shape, OutOfMemory>
-    ensures { IfOk result (λ s. s ≡ shape.now) }
-{
-    match shape {
-        Shape::Scalar(num) => Ok(Shape::Scalar(*num)),
-        Shape::Struct(number) => Ok(Shape::Struct(*number)),
-        Shape::Array(element, count) => {
-            let element = copy_shape(alloc, element.get())?;
-            Ok(Shape::Array(Boxed::new(alloc, element)?, *count))
-        }
-    }
+/// What an item between braces is for.
+#[derive(Drop)]
+pub enum Slot {
+    /// There are too many items.
+    Nothing,
+    /// An element of the array, which stands so many dimensions inside its shape.
+    Element(usize),
+    /// A field with this shape.
+    Field(Shape),
 }
 
 fn member_by(
@@ -107,17 +107,25 @@ fn times(starred: bool, count: u32) -> u64
     }
 }
 
-/// How many elements an object has, where the structures have so many.
-#[tactic(auto, using(crate::proofs::SizeLemmas::size_rows))]
-fn size_by(starred: bool, sizes: &[u64], shape: &Shape) -> u64
-    ensures { (exact : List ℕ) → sizes.now ≡ map spec.kept exact → result ≡ spec.kept (spec.size_by starred exact shape.now) }
+/// How many elements arrays of such dimensions have, around something that has so many.
+fn extent(starred: bool, dims: &[u32], inner: u64) -> u64
+    ensures { (exact : ℕ) → inner ≡ spec.kept exact → result ≡ spec.kept (spec.extent starred dims.now exact) }
 {
-    match shape {
-        Shape::Scalar(_) => 1,
-        Shape::Struct(number) => struct_size(sizes, *number as usize),
-        Shape::Array(element, count) => {
-            times(starred, *count).saturating_mul(size_by(starred, sizes, element.get()))
-        }
+    let mut size = inner;
+    let count = dims.len();
+    for taken in 0..count {
+        size = times(starred, dims[count - 1 - taken]).saturating_mul(size);
+    }
+    size
+}
+
+#[tactic(auto, using(crate::proofs::SizeLemmas::plain_rows))]
+fn plain_size(sizes: &[u64], plain: Plain) -> u64
+    ensures { (exact : List ℕ) → sizes.now ≡ map spec.kept exact → result ≡ spec.kept (spec.plain_size exact plain) }
+{
+    match plain {
+        Plain::Scalar(_) => 1,
+        Plain::Struct(number) => struct_size(sizes, number as usize),
     }
 }
 
@@ -128,6 +136,17 @@ fn struct_size(sizes: &[u64], at: usize) -> u64
         None => 0,
         Some(size) => *size,
     }
+}
+
+/// How many elements an object has, where the structures have so many.
+fn size_by(starred: bool, sizes: &[u64], shape: &Shape) -> u64
+    ensures { (exact : List ℕ) → sizes.now ≡ map spec.kept exact → result ≡ spec.kept (spec.size_by starred exact shape.now) }
+{
+    extent(
+        starred,
+        shape.dims.as_slice(),
+        plain_size(sizes, shape.plain),
+    )
 }
 
 /// How many elements fields have together.
@@ -187,45 +206,41 @@ impl Structs {
         Ok(number)
     }
 
-    /// What the item with that number is for, between the braces of an object.
+    /// What the item with that number is for, between the braces of an object that stands so many dimensions inside a shape.
     #[tactic(auto, using(crate::proofs::SlotLemmas::slot_rows))]
     pub fn slot(
         &self,
         alloc: Global,
         shape: &Shape,
+        depth: usize,
         at: usize,
-    ) -> Result<Option<Shape>, OutOfMemory>
-        ensures { IfOk result (λ s. s ≡ spec.slot self.now shape.now at) }
+    ) -> Result<Slot, OutOfMemory>
+        ensures { IfOk result (λ s. spec.shape_at shape.now s ≡ spec.slot self.now (inside depth shape.now) at) }
     {
-        match shape {
-            Shape::Scalar(_) => Ok(None),
-            Shape::Struct(number) => {
-                shape_in(alloc, field_at(self.defs.get(*number as usize), at))
-            }
-            Shape::Array(element, count) => {
-                if at < *count as usize {
-                    Ok(Some(copy_shape(alloc, element.get())?))
-                } else {
-                    Ok(None)
-                }
-            }
+        match Form::inside(shape, depth) {
+            Form::Scalar(_) => Ok(Slot::Nothing),
+            Form::Struct(number) => slot_of(alloc, field_at(self.defs.get(number as usize), at)),
+            Form::Array(count) => element_slot(count, depth, at),
         }
     }
 
-    /// How many elements of an object there are after so many items.
+    /// How many elements such an object has after so many items; the greatest count stands for all that are too large.
     #[tactic(auto, using(crate::proofs::SlotLemmas::missing_rows))]
-    pub fn missing(&self, shape: &Shape, given: usize) -> Result<u64, OutOfMemory>
-        ensures { IfOk result (λ n. n ≡ spec.missing self.now shape.now given) }
+    pub fn missing(&self, shape: &Shape, depth: usize, given: usize) -> u64
+        ensures { result ≡ spec.kept (spec.missing self.now (inside depth shape.now) given) }
     {
         let sizes = self.sizes.as_slice();
-        match shape {
-            Shape::Scalar(_) => Ok(1),
-            Shape::Struct(number) => {
-                let fields = fields_from(self.defs.get(*number as usize), given);
-                exact(fields_size(false, sizes, fields))
+        match Form::inside(shape, depth) {
+            Form::Scalar(_) => 1,
+            Form::Struct(number) => {
+                fields_size(
+                    false,
+                    sizes,
+                    fields_from(self.defs.get(number as usize), given),
+                )
             }
-            Shape::Array(element, count) => {
-                exact(left_of(*count, given).saturating_mul(size_by(false, sizes, element.get())))
+            Form::Array(count) => {
+                left_of(count, given).saturating_mul(element_size(sizes, shape, depth))
             }
         }
     }
@@ -273,13 +288,36 @@ impl Structs {
     }
 }
 
-fn shape_in(alloc: Global, field: Option<&FieldDef>) -> Result<Option<Shape>, OutOfMemory>
-    ensures { IfOk result (λ s. s ≡ option_map spec.field_shape (option_copied field.entry)) }
+fn slot_of(alloc: Global, field: Option<&FieldDef>) -> Result<Slot, OutOfMemory>
+    ensures { (shape : Shape) → IfOk result (λ s. spec.shape_at shape s ≡ option_map spec.field_shape (option_copied field.entry)) }
 {
     match field {
-        None => Ok(None),
-        Some(field) => Ok(Some(copy_shape(alloc, &field.shape)?)),
+        None => Ok(Slot::Nothing),
+        Some(field) => Ok(Slot::Field(copy_shape(alloc, &field.shape)?)),
     }
+}
+
+/// The slot of an item for an array of so many elements, which stands at that depth.
+#[tactic(auto, using(crate::proofs::SlotLemmas::same_rows))]
+fn element_slot(count: u32, depth: usize, at: usize) -> Result<Slot, OutOfMemory>
+    ensures { (shape : Shape) → IfOk result (λ s. spec.shape_at shape s ≡ slice_get (replicate count (inside (depth + 1) shape)) at) }
+{
+    // No memory holds so many dimensions.
+    let deeper = depth.checked_add(1).ok_or(OutOfMemory)?;
+    if at < count as usize {
+        Ok(Slot::Element(deeper))
+    } else {
+        Ok(Slot::Nothing)
+    }
+}
+
+/// How many elements the elements of an array have that stands so many dimensions inside a shape.
+fn element_size(sizes: &[u64], shape: &Shape, depth: usize) -> u64
+    requires { depth < length shape.now.dims }
+    ensures { (exact : List ℕ) → sizes.now ≡ map spec.kept exact → result ≡ spec.kept (spec.size_by false exact (inside (depth + 1) shape.now)) }
+{
+    let inner = plain_size(sizes, shape.plain);
+    extent(false, &shape.dims.as_slice()[depth + 1..], inner)
 }
 
 fn fields_from(def: Option<&StructDef>, given: usize) -> &[FieldDef]
@@ -295,17 +333,6 @@ fn fields_from(def: Option<&StructDef>, given: usize) -> &[FieldDef]
                 &[]
             }
         }
-    }
-}
-
-/// A count that isn't too large.
-fn exact(count: u64) -> Result<u64, OutOfMemory>
-    ensures { (n : ℕ) → count ≡ spec.kept n → IfOk result (λ m. m ≡ n) }
-{
-    if count < u64::MAX {
-        Ok(count)
-    } else {
-        Err(OutOfMemory)
     }
 }
 

@@ -1,12 +1,13 @@
 //! What typing has seen so far.
 
 ghost use Rattle.std.specs.Prelude.{◌≡◌};
-ghost use Rattle.sa_typer.specs.Typing.{Gives, is_before, lesser, refused, refuse_if};
+ghost use Rattle.sa_typer.specs.Refusals.{is_before, lesser, least_of};
+ghost use Rattle.sa_typer.specs.Typing.{Yields, refuse, refuse_if};
 
 use crate::scope::Scope;
 use crate::structs::Structs;
 use crate::types::{Named, Tagged};
-use sa_base::Pos;
+use sa_base::{OutOfMemory, Pos};
 use sa_typed::{Input, Var};
 use sqlite_items::Items;
 
@@ -19,7 +20,7 @@ pub struct Fault {
 
 impl Fault {
     /// Whether it stands before another one in the text, or at one place has the lesser number.
-    #[tactic(auto, unfolding(crate::specs::Typing::is_before))]
+    #[tactic(auto, unfolding(crate::specs::Refusals::is_before))]
     fn is_before(self, other: Fault) -> bool
         ensures { result ≡ is_before self other }
     {
@@ -46,7 +47,18 @@ pub fn lesser(before: Option<Fault>, fault: Fault) -> Fault
     }
 }
 
-/// The names and tags that are visible, what is declared so far, the literals beside comparisons, and the least refusal.
+/// The least of all refusals, where there is one.
+pub fn least_of(faults: &[Fault]) -> Option<Fault>
+    ensures { result ≡ least_of faults.now }
+{
+    let mut least = None;
+    for fault in faults {
+        least = Some(lesser(least, *fault));
+    }
+    least
+}
+
+/// The names and tags that are visible, what is declared so far, the literals beside comparisons, and all refusals.
 #[derive(Drop)]
 pub struct Typer {
     pub names: Scope<Named>,
@@ -55,24 +67,26 @@ pub struct Typer {
     pub vars: Items<Var>,
     pub inputs: Items<Input>,
     pub thresholds: Items<u64>,
-    pub least: Option<Fault>,
+    pub faults: Items<Fault>,
 }
 
 impl Typer {
     /// Notes that a rule is broken at a place.
     #[tactic(auto, unfolding(crate::specs::Typing::refused))]
-    pub fn refuse(&mut self, rule: u8, pos: Pos)
-        ensures { self.new ≡ refused rule pos self.old }
+    pub fn refuse(&mut self, rule: u8, pos: Pos) -> Result<(), OutOfMemory>
+        ensures { Yields (refuse rule pos self.old) result self.new }
     {
-        self.least = Some(lesser(self.least, Fault { pos, rule }));
+        self.faults.push(Fault { pos, rule })
     }
 
     /// Notes that a rule is broken at a place, if it is.
-    pub fn refuse_if(&mut self, broken: bool, rule: u8, pos: Pos)
-        ensures { refuse_if broken rule pos self.old ≡ Gives result self.new }
+    pub fn refuse_if(&mut self, broken: bool, rule: u8, pos: Pos) -> Result<(), OutOfMemory>
+        ensures { Yields (refuse_if broken rule pos self.old) result self.new }
     {
         if broken {
-            self.refuse(rule, pos);
+            self.refuse(rule, pos)
+        } else {
+            Ok(())
         }
     }
 }

@@ -1,15 +1,14 @@
 //! Types as they are written, and what names stand for.
 
-ghost use Rattle.std.specs.Prelude.{◌≡◌, IfOk};
+ghost use Rattle.std.specs.Prelude.{◌≡◌};
 ghost use Rattle.sa_typer.specs.Types as spec;
 ghost use Rattle.sa_typer.specs.Typing.{Gives, Yields};
 
 use crate::typer::Typer;
 use sa_base::{Num, OutOfMemory, Pos};
 use sa_syntax::{Name, Qualified, Qualifier, ScalarWord};
-use sa_typed::Shape;
-use sqlite_items::Boxed;
-use std::alloc::Global;
+use sa_typed::{Plain, Shape};
+use sqlite_items::Items;
 
 /// What a type is apart from dimensions and qualifiers. It is unknown where its words were refused.
 #[derive(Clone, Copy, Debug, PartialEq, Eq)]
@@ -235,20 +234,31 @@ fn is_misplaced(volatile: bool, fixed: bool, word: Qualifier) -> bool
 }
 
 /// Refuses a word that is out of place.
-fn check_qualifier(typer: &mut Typer, volatile: bool, fixed: bool, word: &Qualified)
-    ensures { spec.qualifier volatile fixed word.now result typer.old ≡ Gives result typer.new }
+fn check_qualifier(
+    typer: &mut Typer,
+    volatile: bool,
+    fixed: bool,
+    word: &Qualified,
+) -> Result<(), OutOfMemory>
+    ensures { Yields (spec.qualifier volatile fixed word.now tt typer.old) result typer.new }
 {
-    typer.refuse_if(is_misplaced(volatile, fixed, word.word), 21, word.pos);
+    typer.refuse_if(is_misplaced(volatile, fixed, word.word), 21, word.pos)
 }
 
 /// Refuses each word that is out of place where `volatile` may stand, and `static`.
 #[tactic(auto, unfolding(crate::specs::Types::qualifiers), using(crate::proofs::Loops::loops))]
-pub fn check_qualifiers(typer: &mut Typer, volatile: bool, fixed: bool, words: &[Qualified])
-    ensures { spec.qualifiers volatile fixed words.now typer.old ≡ Gives result typer.new }
+pub fn check_qualifiers(
+    typer: &mut Typer,
+    volatile: bool,
+    fixed: bool,
+    words: &[Qualified],
+) -> Result<(), OutOfMemory>
+    ensures { Yields (spec.qualifiers volatile fixed words.now typer.old) result typer.new }
 {
     for word in words {
-        check_qualifier(typer, volatile, fixed, word);
+        check_qualifier(typer, volatile, fixed, word)?;
     }
+    Ok(())
 }
 
 // ---- types
@@ -264,34 +274,34 @@ pub fn plain(element: Element) -> Ty
 }
 
 /// The type of words, of whose type's first token the place is given.
-pub fn scalar(typer: &mut Typer, pos: Pos, num: Option<Num>) -> Ty
-    ensures { spec.scalar pos num typer.old ≡ Gives result typer.new }
+pub fn scalar(typer: &mut Typer, pos: Pos, num: Option<Num>) -> Result<Ty, OutOfMemory>
+    ensures { Yields (spec.scalar pos num typer.old) result typer.new }
 {
     match num {
-        Some(num) => plain(Element::Scalar(num)),
+        Some(num) => Ok(plain(Element::Scalar(num))),
         None => {
-            typer.refuse(3, pos);
-            plain(Element::Unknown)
+            typer.refuse(3, pos)?;
+            Ok(plain(Element::Unknown))
         }
     }
 }
 
-fn defined(typer: &mut Typer, pos: Pos, tagged: Option<Tagged>) -> Ty
-    ensures { spec.defined pos tagged typer.old ≡ Gives result typer.new }
+fn defined(typer: &mut Typer, pos: Pos, tagged: Option<Tagged>) -> Result<Ty, OutOfMemory>
+    ensures { Yields (spec.defined pos tagged typer.old) result typer.new }
 {
     match tagged {
-        Some(Tagged::Struct(number)) => plain(Element::Struct(number)),
+        Some(Tagged::Struct(number)) => Ok(plain(Element::Struct(number))),
         _ => {
-            typer.refuse(3, pos);
-            plain(Element::Unknown)
+            typer.refuse(3, pos)?;
+            Ok(plain(Element::Unknown))
         }
     }
 }
 
 /// `struct tag`
 #[tactic(auto, unfolding(crate::specs::Types::tagged))]
-pub fn struct_named(typer: &mut Typer, pos: Pos, tag: &Name) -> Ty
-    ensures { spec.tagged pos tag.now typer.old ≡ Gives result typer.new }
+pub fn struct_named(typer: &mut Typer, pos: Pos, tag: &Name) -> Result<Ty, OutOfMemory>
+    ensures { Yields (spec.tagged pos tag.now typer.old) result typer.new }
 {
     let found = typer.tags.meaning(tag.text.bytes());
     defined(typer, pos, found)
@@ -325,42 +335,39 @@ pub fn qualified(qualifiers: &[Qualified], ty: Ty) -> Ty
 }
 
 /// An object's type, which isn't void.
-pub fn not_void(typer: &mut Typer, pos: Pos, ty: Ty) -> Ty
-    ensures { spec.not_void pos ty typer.old ≡ Gives result typer.new }
+pub fn not_void(typer: &mut Typer, pos: Pos, ty: Ty) -> Result<Ty, OutOfMemory>
+    ensures { Yields (spec.not_void pos ty typer.old) result typer.new }
 {
     match ty.element {
         Element::Void => {
-            typer.refuse(3, pos);
-            Ty {
+            typer.refuse(3, pos)?;
+            Ok(Ty {
                 element: Element::Unknown,
                 constant: ty.constant,
-            }
+            })
         }
-        _ => ty,
+        _ => Ok(ty),
     }
 }
 
 // ---- objects
 
-fn element_shape(element: Element) -> Shape
-    ensures { result ≡ spec.element_shape element }
+fn plain_of(element: Element) -> Plain
+    ensures { result ≡ spec.plain_of element }
 {
     match element {
-        Element::Scalar(num) => Shape::Scalar(num),
-        Element::Struct(number) => Shape::Struct(number),
-        Element::Void | Element::Unknown => Shape::Scalar(Num::I32),
+        Element::Scalar(num) => Plain::Scalar(num),
+        Element::Struct(number) => Plain::Struct(number),
+        Element::Void | Element::Unknown => Plain::Scalar(Num::I32),
     }
 }
 
 /// What has such elements and dimensions, the outermost first.
-#[tactic(auto, unfolding(crate::specs::Types::shape_of), using(crate::proofs::ShapeLemmas::shapes))]
-pub fn shape_of(alloc: Global, element: Element, dimensions: &[u32]) -> Result<Shape, OutOfMemory>
-    ensures { IfOk result (λ s. s ≡ spec.shape_of element dimensions.now) }
+pub fn shape_of(element: Element, dimensions: Items<u32>) -> Shape
+    ensures { result ≡ spec.shape_of element dimensions }
 {
-    let mut shape = element_shape(element);
-    let count = dimensions.len();
-    for taken in 0..count {
-        shape = Shape::Array(Boxed::new(alloc, shape)?, dimensions[count - 1 - taken]);
+    Shape {
+        dims: dimensions,
+        plain: plain_of(element),
     }
-    Ok(shape)
 }

@@ -8,7 +8,9 @@ ghost use Rattle.sa_typed.specs.WellTyped.{IsTyped};
 ghost use Rattle.sa_typer.specs.Units as spec;
 ghost use Rattle.sa_typer.specs.Units.{Accepts, Tells};
 ghost use Rattle.sa_typer.specs.Answers.{IsFault};
-ghost use Rattle.sa_typer.specs.Typing.{Gives, Yields};
+ghost use Rattle.sa_typer.specs.Refusals.{least_of as least};
+ghost use Rattle.sa_typer.specs.Typing.{Yields};
+ghost use Rattle.sa_unbuilt.specs.Unbuilt.{IsBuilt};
 
 use crate::bodies::{Body, Entry};
 use crate::body::main_block;
@@ -17,7 +19,7 @@ use crate::expr::{structure, type_of};
 use crate::fault::TypeFault;
 use crate::scope::Scope;
 use crate::structs::Structs;
-use crate::typer::{Fault, Typer, lesser};
+use crate::typer::{Fault, Typer, least_of, lesser};
 use crate::types::{Element, Named, Ty, check_qualifiers};
 use sa_base::{Code, Limit, Num, OutOfMemory, Pos, Refusal, Text};
 use sa_syntax::{Block, Item, Name, Specifiers, Unit};
@@ -31,7 +33,7 @@ use std::alloc::Global;
 fn plain_type(alloc: Global, typer: &mut Typer, ty: &Specifiers) -> Result<Ty, OutOfMemory>
     ensures { Yields (spec.plain_type ty.now typer.old) result typer.new }
 {
-    check_qualifiers(typer, false, true, ty.qualifiers.as_slice());
+    check_qualifiers(typer, false, true, ty.qualifiers.as_slice())?;
     type_of(alloc, typer, ty)
 }
 
@@ -75,7 +77,7 @@ fn first_main(
     ensures { Yields (spec.first_main name.now ty block.now typer.old) result typer.new }
 {
     declare(alloc, typer, name, Named::Function)?;
-    typer.refuse_if(is_struct(ty.element), 5, name.pos);
+    typer.refuse_if(is_struct(ty.element), 5, name.pos)?;
     let body = main_block(alloc, typer, block.items.as_slice())?;
     Ok(Some(entry(alloc, name, ty, body)?))
 }
@@ -94,7 +96,7 @@ fn main(
 {
     let ty = plain_type(alloc, typer, ty)?;
     if typer.names.contains(name.text.bytes()) {
-        typer.refuse(2, name.pos);
+        typer.refuse(2, name.pos)?;
         return Ok(found);
     }
     first_main(alloc, typer, name, ty, block)
@@ -157,7 +159,7 @@ fn blank(alloc: Global) -> Typer
         vars: Items::new(alloc),
         inputs: Items::new(alloc),
         thresholds: Items::new(alloc),
-        least: None,
+        faults: Items::new(alloc),
     }
 }
 
@@ -244,12 +246,12 @@ fn fits(typer: &Typer, entry: &Entry) -> bool
     cells.saturating_add(result_cells(result_of(entry.result))) <= Limit::Cells.number()
 }
 
-fn accept(alloc: Global, typer: Typer, entry: Entry) -> Result<Program, TypeFault>
-    ensures { Tells (spec.unless_refused typer.least typer entry) result }
+fn accept(alloc: Global, typer: Typer, entry: Option<Entry>) -> Result<Program, TypeFault>
+    ensures { Tells (spec.accepted_by entry typer) result }
 {
-    match typer.least {
-        Some(fault) => Err(TypeFault::Refused(refusal(fault))),
-        None => {
+    match entry {
+        None => Err(TypeFault::TooMany(Limit::Cells)),
+        Some(entry) => {
             if fits(&typer, &entry) {
                 Ok(program(alloc, typer, entry)?)
             } else {
@@ -259,24 +261,39 @@ fn accept(alloc: Global, typer: Typer, entry: Entry) -> Result<Program, TypeFaul
     }
 }
 
-/// The answer at the end of the text.
-fn finish(alloc: Global, typer: Typer, entry: Option<Entry>, end: Pos) -> Result<Program, TypeFault>
-    ensures { Tells (spec.answer_by end entry typer) result }
+fn has_entry(entry: &Option<Entry>) -> bool
+    ensures { result ≡ spec.has_entry entry.now }
 {
-    let missing = refusal(lesser(typer.least, Fault { pos: end, rule: 22 }));
     match entry {
-        None => Err(TypeFault::Refused(missing)),
-        Some(entry) => {
-            if is_entry(&entry) {
-                accept(alloc, typer, entry)
-            } else {
-                Err(TypeFault::Refused(missing))
-            }
-        }
+        None => false,
+        Some(entry) => is_entry(entry),
     }
 }
 
-#[tactic(auto, unfolding(crate::specs::Units::answer))]
+/// The least refusal of a text that ends there.
+#[tactic(auto, using(crate::proofs::RefusalLaws::one_more))]
+fn least_refusal(typer: &Typer, entry: &Option<Entry>, end: Pos) -> Option<Fault>
+    ensures { result ≡ least (spec.refusals_by end entry.now typer.now) }
+{
+    let found = least_of(typer.faults.as_slice());
+    if has_entry(entry) {
+        found
+    } else {
+        Some(lesser(found, Fault { pos: end, rule: 22 }))
+    }
+}
+
+/// The answer at the end of the text.
+fn finish(alloc: Global, typer: Typer, entry: Option<Entry>, end: Pos) -> Result<Program, TypeFault>
+    ensures { Tells (spec.unless_refused (least (spec.refusals_by end entry typer)) (spec.accepted_by entry typer)) result }
+{
+    match least_refusal(&typer, &entry, end) {
+        Some(fault) => Err(TypeFault::Refused(refusal(fault))),
+        None => accept(alloc, typer, entry),
+    }
+}
+
+#[tactic(auto, unfolding(crate::specs::Units::answer, crate::specs::Units::refusals))]
 fn answer(alloc: Global, unit: &Unit, end: Pos) -> Result<Program, TypeFault>
     ensures { Tells (spec.answer unit.now end) result }
 {
@@ -287,9 +304,10 @@ fn answer(alloc: Global, unit: &Unit, end: Pos) -> Result<Program, TypeFault>
 
 /// The typed program of a tree whose text ends there. It is refused by the least refusal of the text: the one with the least
 /// place, and of those the one with the least rule; where nothing is refused, by the limit of cells. `specs/` has the rules
-/// with their sources in ISO C.
+/// with their sources in ISO C. Each form in the tree has to be one that is analysed, as `first_unbuilt` of `sa_unbuilt` tells.
 #[tactic(auto, using(crate::proofs::AnswerLemmas::told_accepted, crate::proofs::AnswerLemmas::told_typed, crate::proofs::AnswerLemmas::told_small, crate::proofs::AnswerLemmas::told_refused))]
 pub fn type_unit(alloc: Global, unit: &Unit, end: Pos) -> Result<Program, TypeFault>
+    requires { IsBuilt unit.now }
     ensures accepted { IfOk result (λ p. spec.answer unit.now end ≡ Accepts p) }
     ensures typed { IfOk result IsTyped }
     ensures small { IfOk result (λ p. length (cells p) ≤ 65536) }

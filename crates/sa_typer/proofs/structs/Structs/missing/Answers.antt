@@ -1,15 +1,29 @@
-use Rattle.std.proofs.Common.{◌≡◌, ℕ, ◌-◌, ◌*◌, false, ap, sym, ◌∙◌, refl}
-use Rattle.sa_typed.specs.declared.shape.Shape.TheVariants as sh
-use Rattle.sa_typer.specs.Structures.{Structs, sizes_of, size_by, missing, kept}
+use Rattle.std.proofs.Common.{◌≡◌, ℕ, ◌*◌, ◌+◌, false, map, drop, ap, sym, ◌∙◌, Option, List}
+use Rattle.std.specs.Prelude.{slice_get}
+use Rattle.sa_typed.specs.declared.shape.FieldDef.{FieldDef}
+use Rattle.sa_typed.specs.declared.shape.StructDef.{StructDef}
+use Rattle.sa_typer.specs.Forms.{inside}
+use Rattle.sa_typer.specs.Structures.{Structs, sizes_of, size_by, sum_by, field_shape, fields_in, kept}
 use Rattle.sa_typer.proofs.SizeLemmas.{kept-times}
-use Rattle.sa_typer.proofs.SlotLemmas.{missing-Array}
+use Rattle.sa_typer.proofs.SlotLemmas.{missing-Scalar, missing-Struct, missing-Array}
 use Rattle.sa_typer.proofs.structs.Structs.missing.Goals as goal
+
+pub returns-in-Scalar : goal.returns-in-Scalar
+returns-in-Scalar c = sym (ap kept (missing-Scalar c.args.self.now (inside c.args.depth c.args.shape.now) _ c.args.given (sym c.in-Scalar.ensures.form)))
+
+pub returns-in-Struct : goal.returns-in-Struct
+returns-in-Struct c =
+    let exact : List ℕ = sizes_of false c.args.self.now.defs in
+    let sized = c.as_slice-sizes.ensures ∙ c.self.invariant.0 ∙ ap (λ (s : Structs). map kept (sizes_of false s.defs)) c.self.view_is in
+    let fields = c.fields_from.ensures ∙ ap (λ (d : Option StructDef). drop c.args.given (fields_in d)) (c.get.ensures.value ∙ ap (λ (s : Structs). slice_get s.defs c.in-Struct.number) c.self.view_is) in
+    c.fields_size.ensures exact sized ∙ ap (λ (fs : List FieldDef). kept (sum_by false exact (map field_shape fs))) fields
+    ∙ sym (ap kept (missing-Struct c.args.self.now (inside c.args.depth c.args.shape.now) c.in-Struct.number c.args.given (sym c.in-Struct.ensures.form)))
 
 pub returns-in-Array : goal.returns-in-Array
 returns-in-Array c =
-    let view : Structs = record { defs = c.self.inside.defs; members = c.self.inside.members } in
-    let size = c.size_by.ensures (sizes_of false c.self.inside.defs) (c.as_slice-sizes.ensures ∙ c.self.invariant.0) in
-    let many : ℕ = (c.in-Array.count - c.args.given) * size_by false (sizes_of false c.self.inside.defs) c.in-Array.element in
-    let is : missing c.args.self.now c.args.shape.now c.args.given ≡ many =
-    rw (← c.self.view_is, c.in-Array.is) (missing-Array view c.in-Array.element c.in-Array.count c.args.given) in
-    rw is (c.exact-in-Array.ensures many (c.saturating_mul.ensures ∙ rw (c.left_of.ensures, size, c.get-in-Array.ensures) (kept-times (c.in-Array.count - c.args.given) _)))
+    let exact : List ℕ = sizes_of false c.args.self.now.defs in
+    let sized = c.as_slice-sizes.ensures ∙ c.self.invariant.0 ∙ ap (λ (s : Structs). map kept (sizes_of false s.defs)) c.self.view_is in
+    let size = c.element_size.ensures exact sized in
+    c.saturating_mul.ensures ∙ ap (λ (m : ℕ). kept (c.left_of.result * m)) size ∙ kept-times c.left_of.result _
+    ∙ ap (λ (m : ℕ). kept (m * size_by false exact (inside (c.args.depth + 1) c.args.shape.now))) c.left_of.ensures
+    ∙ sym (ap kept (missing-Array c.args.self.now c.args.shape.now c.args.depth c.in-Array.count c.args.given (sym c.in-Array.ensures.form)))
