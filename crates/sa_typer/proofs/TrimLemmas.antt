@@ -2,6 +2,7 @@
 use Rattle.std.proofs.Common.{◌≡◌, ◌≢◌, ◌^◌, ◌-◌, min, zero, suc, ℕ, ◌+◌, List, [], ◌∷◌, ◌++◌, Bool, true, false, length, replicate, refl, ap, sym, ◌∙◌, arith, append_assoc}
 use Rattle.std.specs.Prelude.{ℤ, pos, if◌then◌else◌}
 use Rattle.std.specs.Ordering.{int_eq}
+use Rattle.std.proofs.lemmas.Bool.Decides.{Decides-int_eq}
 use Rattle.std.proofs.lemmas.List.{append-nil}
 use Rattle.sa_typer.specs.declared.initial.Values.{Values}
 use Rattle.sa_typer.specs.Initialisers.{zeros, trimmed, before_zeros, is_zero, Stands}
@@ -66,3 +67,6 @@ stands_write v w zs z e p m h s =
 
 pub stands_trimmed : (v : Values) (zs : List ℤ) → Stands v zs → trimmed zs ≡ v.written
 stands_trimmed v zs s = ap trimmed (sym s.is) ∙ trimmed-zeros v.written s.count ∙ s.ends
+
+pub zero_is : (z : ℤ) → is_zero z ≡ true → z ≡ pos 0
+zero_is z h = (Decides-int_eq z (pos 0)).0 h

@@ -39,6 +39,12 @@ fn with_zeros(values: Items<i128>, count: u64) -> Result<Items<i128>, OutOfMemor
     Ok(written)
 }
 
+fn is_zero(value: i128) -> bool
+    ensures { result ≡ spec.is_zero value }
+{
+    value == 0
+}
+
 impl Values {
     /// No values.
     fn new(alloc: Global) -> Values
@@ -80,7 +86,7 @@ impl Values {
     fn push(self, value: i128) -> Result<Values, OutOfMemory>
         ensures { (zs : List ℤ) → Stands self zs → IfOk result (λ v. Stands v (zs ++ value ∷ [])) }
     {
-        if value == 0 {
+        if is_zero(value) {
             Ok(self.skip(1))
         } else {
             self.write(value)
