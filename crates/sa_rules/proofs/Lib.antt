@@ -1,0 +1,6 @@
+pub mod Walks
+pub mod QuietParts
+pub mod Steps
+pub mod Names
+pub mod Qualifiers
+pub mod Trees

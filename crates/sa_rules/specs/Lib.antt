@@ -1,0 +1,4 @@
+pub mod Events
+pub mod Sight
+pub mod Texts
+pub mod Rules
