@@ -4,3 +4,4 @@ pub mod Steps
 pub mod Names
 pub mod Qualifiers
 pub mod Trees
+pub mod Declared

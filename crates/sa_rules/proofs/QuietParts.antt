@@ -30,7 +30,7 @@ use Rattle.sa_typer.specs.Values.{constant}
 use Rattle.sa_typer.specs.Typing.{Typed, Typing, Gives, and_then, pure, refuse}
 use Rattle.sa_rules.proofs.Walks.{is_noted, Quiet, quiet_gives, quiet_refuses, quiet_then, quiet_unless}
 
-quiet_if : {A : Type 0} {s : Typer} (b : Bool) (m n : Typing A) → Quiet s (m s) → Quiet s (n s) → Quiet s ((if b then m else n) s)
+pub quiet_if : {A : Type 0} {s : Typer} (b : Bool) (m n : Typing A) → Quiet s (m s) → Quiet s (n s) → Quiet s ((if b then m else n) s)
 quiet_if true m n a b = a
 quiet_if false m n a b = b
 

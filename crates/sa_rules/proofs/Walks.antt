@@ -161,6 +161,17 @@ bind {xs = xs} {ys = ys} {Z = Z} {t = Gives a u} {f = f} m go =
           subst (λ (l : Noted). Same (state (f a u)) l × Z (value (f a u)) l.sight) (sym (noting_append n xs ys)) (g.reads c (noting n xs) k.0 k.1);
     }
 
+-- the same for the state that the first part ends in
+pub then_here : {A B : Type 0} {X : Sight → Type 0} {s : Typer} {xs ys : List Event} {Y : A → Sight → Type 0} {Z : B → Sight → Type 0} {t : Typed A} (f : A → Typing B) →
+    Reads X s xs Y t → Reads (Y (value t)) (state t) ys Z (f (value t) (state t)) → Reads X s (xs ++ ys) Z (and_then t f)
+then_here {xs = xs} {ys = ys} {Z = Z} {t = Gives a u} f m g =
+    record {
+      clear = λ c. m.clear (g.clear c);
+      reads = λ c n h x.
+          let k = m.reads (g.clear c) n h x in
+          subst (λ (l : Noted). Same (state (f a u)) l × Z (value (f a u)) l.sight) (sym (noting_append n xs ys)) (g.reads c (noting n xs) k.0 k.1);
+    }
+
 -- a quiet walk follows
 pub ends : {A B : Type 0} {X Y : Sight → Type 0} {s : Typer} {xs : List Event} {t : Typed A} {f : A → Typing B} →
     Reads X s xs (λ a. Y) t → ((a : A) (u : Typer) → Quiet u (f a u)) → Reads X s xs (λ b. Y) (and_then t f)

@@ -2,10 +2,10 @@
 use Rattle.std.specs.Prelude.{ℕ, List, [], ◌∷◌, ◌++◌, ◌&&◌, ◌||◌, Bool, true, false, if◌then◌else◌, length, Option, Some, None}
 use Rattle.std.specs.List.{fold}
 use Rattle.sa_base.specs.declared.num.Num.{Num}
-use Rattle.sa_base.specs.declared.num.Num.TheVariants.{I32}
 use Rattle.sa_syntax.specs.declared.decl.Name.{Name}
 use Rattle.sa_typer.specs.Scopes.{Scope, nothing, meaning_of, is_visible, index_from, is_some, with_name, with_meaning, oldest, count}
 use Rattle.sa_typer.specs.Types.{num_of}
+use Rattle.sa_typer.specs.Units.{is_result}
 use Rattle.sa_rules.specs.Events.{Event, Misplaced, Volatile_before_bare, Words, Void, Tag, Named, Opens, Closes, Object, Uses, Declares, Aliases, Member, Begins, Ends, Stray, Main}
 
 -- what a type is apart from its qualifiers; it is none where its words were refused
@@ -64,14 +64,10 @@ abbrev pub is_structure : Kind → Bool
 is_structure Structure = true
 is_structure _ = false
 
--- void or int; what was refused counts as either
-abbrev pub is_int : Num → Bool
-is_int I32 = true
-is_int _ = false
-
-abbrev pub is_result : Kind → Bool
-is_result (Number num) = is_int num
-is_result _ = true
+-- void or int; what is refused elsewhere counts as either
+abbrev pub gives_int : Kind → Bool
+gives_int (Number num) = is_result num
+gives_int _ = true
 
 -- the fields so far of the structure that is open
 abbrev pub fields_so_far : List Open → List (List ℕ)
@@ -139,7 +135,7 @@ see m (Member x) = field_unless (is_taken m x.text) x.text m
 see m Begins = record m { opened = Block (count m.names) (count m.tags) ∷ m.opened }
 see m Ends = left m.opened m
 see m (Stray p) = m
-see m (Main clock) = record m { entry = clock && is_result m.last }
+see m (Main clock) = record m { entry = clock && gives_int m.last }
 
 -- what is visible after some events more
 abbrev pub after : Sight → List Event → Sight

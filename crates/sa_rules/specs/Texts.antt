@@ -131,7 +131,7 @@ stray_if false p = []
 -- the items of main's block, given whether the clock loop stands before them: an item after it is astray
 unfoldable pub in_main : Bool → List BlockItem → List Event
 in_main found [] = []
-in_main found (i ∷ is) = stray_if found (item_pos i) ++ (in_loop_or_item (clock_loop i) i ++ in_main (found || is_some (clock_loop i)) is)
+in_main found (i ∷ is) = (stray_if found (item_pos i) ++ in_loop_or_item (clock_loop i) i) ++ in_main (found || is_some (clock_loop i)) is
 
 unfoldable pub has_loop : Bool → List BlockItem → Bool
 has_loop found [] = found
