@@ -5,3 +5,4 @@ pub mod Names
 pub mod Qualifiers
 pub mod Trees
 pub mod Declared
+pub mod Blocks
