@@ -6,3 +6,5 @@ pub mod Qualifiers
 pub mod Trees
 pub mod Declared
 pub mod Blocks
+pub mod Sources
+pub mod Counts

@@ -25,7 +25,7 @@ use Rattle.sa_rules.specs.Rules.{undeclared, declared_twice, no_type, misqualifi
 
 -- ---- what is noted: refusals with these codes
 abbrev pub is_noted : ℕ → Bool
-is_noted k = k == 1 || k == 2 || k == 3 || k == 21 || k == 23
+is_noted k = k == 1 || k == 2 || k == 3 || k == 21 || k == 22 || k == 23
 
 abbrev pub is_noted_fault : Fault → Bool
 is_noted_fault f = is_noted f.rule
@@ -103,7 +103,7 @@ pub record Quiet (s : Typer) {A : Type 0} (t : Typed A) : Type 0 where
   pub clear : Clear (state t) → Clear s
 
 -- ---- quiet walks
-left_empty : {A : Type 0} (xs ys : List A) → xs ++ ys ≡ [] → xs ≡ []
+pub left_empty : {A : Type 0} (xs ys : List A) → xs ++ ys ≡ [] → xs ≡ []
 left_empty [] ys h = refl
 left_empty (x ∷ xs) ys h = cc
 

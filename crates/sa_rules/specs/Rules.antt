@@ -80,3 +80,10 @@ HasNoBadInitialiser u end = refused_by 20 (refusals u end) ≡ []
 -- the refusals with that code stand exactly where the rule says
 abbrev pub IsRule : ℕ → Rule → Type 0
 IsRule code rule = (u : Source) (end : Pos) → HasNoBadInitialiser u end → refused_by code (refusals u end) ≡ places rule nothing_seen (text u)
+
+-- 22: the text has no main with the clock loop that gives void or int; it is refused where it ends
+abbrev pub no_main : Source → Pos → List Pos
+no_main u end = if (after nothing_seen (text u)).entry then [] else (end ∷ [])
+
+abbrev pub IsMissingMain : Type 0
+IsMissingMain = (u : Source) (end : Pos) → HasNoBadInitialiser u end → refused_by 22 (refusals u end) ≡ no_main u end
