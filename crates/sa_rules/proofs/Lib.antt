@@ -8,3 +8,4 @@ pub mod Declared
 pub mod Blocks
 pub mod Sources
 pub mod Counts
+pub mod Exact

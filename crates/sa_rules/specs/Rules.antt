@@ -1,6 +1,6 @@
 -- For each code of a refusal the places of a text that it refuses. A rule says of an event, given what is visible before it,
 -- whether it is refused, and where.
-use Rattle.std.specs.Prelude.{ℕ, List, [], ◌∷◌, Bool, true, false, if◌then◌else◌, ◌==◌, ◌≡◌, Option, Some, None}
+use Rattle.std.specs.Prelude.{ℕ, List, [], ◌∷◌, ◌++◌, Bool, true, false, if◌then◌else◌, ◌==◌, ◌≡◌, Option, Some, None}
 use Rattle.std.specs.List.{Contains, filter_map}
 use Rattle.sa_base.specs.declared.pos.Pos.{Pos}
 use Rattle.sa_syntax.specs.declared.unit.Unit.{Unit as Source}
@@ -80,6 +80,19 @@ HasNoBadInitialiser u end = refused_by 20 (refusals u end) ≡ []
 -- the refusals with that code stand exactly where the rule says
 abbrev pub IsRule : ℕ → Rule → Type 0
 IsRule code rule = (u : Source) (end : Pos) → HasNoBadInitialiser u end → refused_by code (refusals u end) ≡ places rule nothing_seen (text u)
+
+-- an event of the list at which the rule refuses that place, given what is visible after the events before it
+pub record Breaks (rule : Rule) (m : Sight) (es : List Event) (p : Pos) : Type 0 where
+  pub front : List Event
+  pub event : Event
+  pub rest : List Event
+  pub is : es ≡ front ++ event ∷ rest
+  pub at : rule (after m front) event ≡ Some p
+
+-- the same, place by place: one is refused with the code exactly where an event of the text breaks the rule there
+abbrev pub IsExact : ℕ → Rule → Type 0
+IsExact code rule = (u : Source) (end : Pos) → HasNoBadInitialiser u end → (p : Pos) →
+    (Contains (refusals u end) (fault code p) → Breaks rule nothing_seen (text u) p) × (Breaks rule nothing_seen (text u) p → Contains (refusals u end) (fault code p))
 
 -- 22: the text has no main with the clock loop that gives void or int; it is refused where it ends
 abbrev pub no_main : Source → Pos → List Pos
