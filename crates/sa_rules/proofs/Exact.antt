@@ -20,10 +20,10 @@ in_one y x h = elim (Contains-push_cases [] y x h) [ inl g ↦ absurd (none_in x
 in_more : {A : Type 0} (y x : A) (ys : List A) → Contains (y ∷ ys) x → (y ≡ x) ⊎ Contains ys x
 in_more y x ys h = elim (Contains-append_cases (y ∷ []) ys x h) [ inl g ↦ inl (in_one y x g) | inr g ↦ inr g ]
 
-head_in : {A : Type 0} (y x : A) (ys : List A) → y ≡ x → Contains (y ∷ ys) x
+pub head_in : {A : Type 0} (y x : A) (ys : List A) → y ≡ x → Contains (y ∷ ys) x
 head_in y x ys e = Contains-append_left (y ∷ []) ys x (subst (λ (z : _). Contains (z ∷ []) x) (sym e) (Contains-push [] x))
 
-rest_in : {A : Type 0} (y x : A) (ys : List A) → Contains ys x → Contains (y ∷ ys) x
+pub rest_in : {A : Type 0} (y x : A) (ys : List A) → Contains ys x → Contains (y ∷ ys) x
 rest_in y x ys h = Contains-append_right (y ∷ []) ys x h
 
 -- ---- refusals with a code

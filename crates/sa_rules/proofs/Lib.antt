@@ -9,3 +9,7 @@ pub mod Blocks
 pub mod Sources
 pub mod Counts
 pub mod Exact
+pub mod SiteWalks
+pub mod SiteParts
+pub mod SiteTrees
+pub mod SiteTexts

@@ -2,3 +2,4 @@ pub mod Events
 pub mod Sight
 pub mod Texts
 pub mod Rules
+pub mod Sites
