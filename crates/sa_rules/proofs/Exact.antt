@@ -11,7 +11,7 @@ use Rattle.sa_rules.specs.Events.{Event}
 use Rattle.sa_rules.specs.Rules.{Rule, with_place, places, at_if, refused_by, Breaks, IsRule, IsExact}
 use Rattle.sa_rules.specs.Sight.{Sight, nothing_seen, see, after}
 
-none_in : {A : Type 0} (x : A) → Contains [] x → ⊥
+pub none_in : {A : Type 0} (x : A) → Contains [] x → ⊥
 none_in x h = let l = h.1 in omega arith
 
 in_one : {A : Type 0} (y x : A) → Contains (y ∷ []) x → y ≡ x

@@ -58,10 +58,10 @@ use Rattle.sa_rules.proofs.SiteWalks.{Adds, Sub, sub_left, sub_right, sub_head, 
 
 -- the refusals with other codes are P all the same
 module _ (P : Fault → Type 0) (free : (k : ℕ) (q : Pos) → is_sited k ≡ false → P (fault k q)) where
-  refusal : {A : Type 0} {s : Typer} {x : A} (k : ℕ) (q : Pos) → is_sited k ≡ false → Adds P s (Gives x (refused k q s))
+  pub refusal : {A : Type 0} {s : Typer} {x : A} (k : ℕ) (q : Pos) → is_sited k ≡ false → Adds P s (Gives x (refused k q s))
   refusal k q h = adds_refusal P k q (free k q h)
 
-  unless : {s : Typer} (b : Bool) (k : ℕ) (q : Pos) → is_sited k ≡ false → Adds P s (refuse_if b k q s)
+  pub unless : {s : Typer} (b : Bool) (k : ℕ) (q : Pos) → is_sited k ≡ false → Adds P s (refuse_if b k q s)
   unless b k q h = adds_unless P b k q (free k q h)
 
   -- ---- constants

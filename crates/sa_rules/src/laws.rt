@@ -1,6 +1,7 @@
 //! Laws of refusals.
 
 ghost use Rattle.sa_rules.specs.Rules.{IsRule, IsExact, IsMissingMain, undeclared, declared_twice, no_type, misqualified, astray};
+ghost use Rattle.sa_rules.specs.Sites.{StandAtSites};
 
 /// Refusals with code 1 stand exactly at the names of variables that aren't visible there.
 pub fn names_are_declared()
@@ -39,4 +40,10 @@ pub fn there_is_a_main()
 pub fn waits_stand_in_place()
     ensures listed { IsRule 23 astray }
     ensures exact { IsExact 23 astray }
+{}
+
+/// Refusals with the codes 4, 6, 7, 18, 19 and 20 stand only where such a one can stand: at the name of a field, a left side, the
+/// `=` of an assignment, a dimension, an initialiser. Whether one stands there depends on types.
+pub fn other_refusals_stand_at_their_sites()
+    ensures { StandAtSites }
 {}

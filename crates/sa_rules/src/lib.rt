@@ -9,6 +9,6 @@
 mod laws;
 
 pub use laws::{
-    names_are_declared, names_are_declared_once, qualifiers_stand_in_place, there_is_a_main,
-    types_are_types, waits_stand_in_place,
+    names_are_declared, names_are_declared_once, other_refusals_stand_at_their_sites,
+    qualifiers_stand_in_place, there_is_a_main, types_are_types, waits_stand_in_place,
 };
