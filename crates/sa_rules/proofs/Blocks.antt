@@ -136,10 +136,11 @@ module _ (found : Bool) where
             ∙ ap (λ (k : Scope Bool). Block (count {M = Option Kind} (seen_as name_kind s.names)) (count k) ∷ os) ts ∙ same_counts s;
         entry = h.entry;
       })) where
-    map_length : {M N : Type 0} (f : M → N) (n : Scope M) → count (seen_as f n) ≡ count n
-    map_length f n = refl
-    same_counts : (s : Typer) → Block (count (seen_as name_kind s.names)) (count (seen_as is_struct_tag s.tags)) ∷ os ≡ Block (count s.names) (count s.tags) ∷ os
-    same_counts s = refl
+        map_length : {M N : Type 0} (f : M → N) (n : Scope M) → count (seen_as f n) ≡ count n
+        map_length f n = refl
+
+        same_counts : (s : Typer) → Block (count (seen_as name_kind s.names)) (count (seen_as is_struct_tag s.tags)) ∷ os ≡ Block (count s.names) (count s.tags) ∷ os
+        same_counts s = refl
 
   ends_reads : {A : Type 0} (os : List Open) (names tags : ℕ) (b : A) (s : Typer) → Reads (At (Block names tags ∷ os) found) s (Ends ∷ []) (λ (b : A). At os found) (left_scope names tags b s)
   unfolding see

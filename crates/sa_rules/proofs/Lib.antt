@@ -3,6 +3,9 @@ pub mod QuietParts
 pub mod Steps
 pub mod Names
 pub mod Qualifiers
+pub mod KeptNames
+pub mod ConstantValues
+pub mod Dimensions
 pub mod Trees
 pub mod Declared
 pub mod Blocks

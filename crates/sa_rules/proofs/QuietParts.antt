@@ -47,14 +47,6 @@ no_object_quiet (a.Struct x k fixed p) s = quiet_refuses 5 p refl
 no_object_quiet (a.Array p) s = quiet_refuses 5 p refl
 no_object_quiet a.Unknown s = quiet_gives
 
-dimension_by_quiet : (p : Pos) (o : Option ℤ) (s : Typer) → Quiet s (dimension_by p o s)
-dimension_by_quiet p None s = quiet_gives
-dimension_by_quiet p (Some z) s = quiet_if (is_dimension z) _ _ quiet_gives (quiet_refuses 19 p refl)
-
-pub dimension_quiet : (p : Pos) (x : Operand) (s : Typer) → Quiet s (dimension p x s)
-unfolding dimension
-dimension_quiet p x s = quiet_then (no_object_quiet x s) (λ a t. quiet_then (constant_quiet p (known_value x) t) (λ o u. dimension_by_quiet p o u))
-
 -- ---- operators
 threshold_quiet : (o : Option ℕ) (s : Typer) → Quiet s (with_threshold o s)
 threshold_quiet None s = quiet_gives

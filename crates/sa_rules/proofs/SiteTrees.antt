@@ -26,7 +26,6 @@ use Rattle.sa_typer.specs.Lists as list
 use Rattle.sa_typer.specs.Operands.{prefix_of, left_of}
 use Rattle.sa_typer.specs.Types.{num_of, object, whole, qualified}
 use Rattle.sa_typer.specs.Typing.{Typed, Typing, Gives, and_then, pure, each}
-
 use Rattle.sa_typer.specs.declared.typer.Fault.{Fault}
 use Rattle.sa_typer.specs.Typing.{fault}
 use Rattle.sa_rules.specs.Sites.{is_sited, of_dimension, of_expr, of_links, of_steps, of_step, of_base, of_struct, of_fields, of_field, of_declrs, of_declr, of_bounds, of_bound, of_place, of_specifiers}

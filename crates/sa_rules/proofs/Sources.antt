@@ -68,7 +68,7 @@ bind_by {xs = xs} {ys = ys} {Z = Z} {t = Gives a u} {f = f} m go =
           let es = xs n.sight in
           let r = g.reads c (noting n es) k.0 k.1 in
           let same : noting (noting n es) (ys (noting n es).sight) ≡ noting n (es ++ ys (after n.sight es)) =
-              ap (λ (l : Sight). noting (noting n es) (ys l)) (sight_after n es) ∙ sym (noting_append n es (ys (after n.sight es))) in
+          ap (λ (l : Sight). noting (noting n es) (ys l)) (sight_after n es) ∙ sym (noting_append n es (ys (after n.sight es))) in
           subst (λ (l : Noted). Same (state (f a u)) l × Z (value (f a u)) l.sight) same r;
     }
 
@@ -172,6 +172,7 @@ whole_clear u end h = by_walk end (all_items u) h where
   by_entry : (end : Pos) (b : Bool) (s : Typer) → refused_by 20 (if b then s.faults else (s.faults ++ fault 22 end ∷ [])) ≡ [] → Clear s
   by_entry end true s h = record { none = h }
   by_entry end false s h = record { none = left_empty (refused_by 20 s.faults) (refused_by 20 (fault 22 end ∷ [])) (sym (filter_map-append (place_of 20) s.faults (fault 22 end ∷ [])) ∙ h) }
+
   by_walk : (end : Pos) (t : Typed (Option Entry)) → refused_by 20 (unit.refusals_in end t) ≡ [] → Clear (state t)
   by_walk end (Gives o s) h = by_entry end (has_entry o) s h
 

@@ -29,11 +29,12 @@ use Rattle.sa_typer.specs.Typing.{Typed, Typing, Gives, and_then, pure, each}
 use Rattle.sa_rules.specs.Events.{Event, Object, in_expr, in_links, in_steps, in_step, in_base, in_struct, in_fields, in_field, in_declrs, in_declr, in_bounds, in_bound}
 use Rattle.sa_rules.specs.Sight.{Open, Braces, Sight}
 use Rattle.sa_rules.specs.Texts.{in_place, in_type, in_object}
-use Rattle.sa_rules.proofs.Walks.{Reads, Quiet, quiet_gives, quiet_then, quiet, stays, bind, ends, so, from, all_parts}
+use Rattle.sa_rules.proofs.Walks.{state, value, then_here, Reads, Quiet, quiet_gives, quiet_then, quiet, stays, bind, ends, so, from, all_parts}
 use Rattle.sa_rules.proofs.Steps.{At, Last, forget, begins_reads, scalar_reads, void_reads, tagged_reads, type_name_reads, object_reads}
 use Rattle.sa_rules.proofs.Names.{opened_reads, closed_reads, field_reads}
+use Rattle.sa_rules.proofs.Dimensions.{known_there, dimension_reads}
 use Rattle.sa_rules.proofs.Qualifiers.{plain_qualifiers, field_qualifiers}
-use Rattle.sa_rules.proofs.QuietParts.{dimension_quiet, beside_quiet, prefixed_quiet, cast_quiet, linked_quiet, index_quiet, field_quiet, arrow_quiet}
+use Rattle.sa_rules.proofs.QuietParts.{beside_quiet, prefixed_quiet, cast_quiet, linked_quiet, index_quiet, field_quiet, arrow_quiet}
 
 beside_first_quiet : {n : _} (row : Row_of-Link n) (x : Expr) (s : Typer) → Quiet s (beside_first row x s)
 beside_first_quiet end_of-Link x s = quiet_gives
@@ -113,7 +114,7 @@ module _ (found : Bool) where
     bounds_reads : {n : _} (os : List Open) (row : Row_of-Bound n) (dims : List ℕ) (s : Typer) → Reads (At os found) s (in_bounds row) (λ dims. At os found) (bounds row dims s)
     bounds_reads os end_of-Bound dims s = quiet quiet_gives
     bounds_reads os (more_of-Bound q x rest) dims s =
-        bind (ends (expr_reads os x s) (λ i t. quiet_then (dimension_quiet (expr_pos x) i t) (λ n u. quiet_gives))) (λ dims t. bounds_reads os rest dims t)
+        bind (then_here _ (expr_reads os x s) (ends (dimension_reads os found x (value (expr x s)) (state (expr x s)) (known_there x s)) (λ n u. quiet_gives))) (λ dims t. bounds_reads os rest dims t)
 
   -- ---- lists of parts
   pub spot_reads : (os : List Open) (x : Place) (s : Typer) → Reads (At os found) s (in_place x) (λ l. At os found) (list.spot x s)
@@ -132,4 +133,4 @@ module _ (found : Bool) where
   pub dimensions_reads : (os : List Open) (bs : List Bound) (s : Typer) → Reads (At os found) s (flat_map in_bound bs) (λ dims. At os found) (list.bounds bs [] s)
   dimensions_reads os bs s =
       all_parts (At os found) list.bound in_bound
-      (λ b dims s. ends (expr_reads os (out-Bound b).size s) (λ i t. quiet_then (dimension_quiet (expr_pos (out-Bound b).size) i t) (λ n u. quiet_gives))) bs [] s
+      (λ b dims s. let x = (out-Bound b).size in then_here _ (expr_reads os x s) (ends (dimension_reads os found x (value (expr x s)) (state (expr x s)) (known_there x s)) (λ n u. quiet_gives))) bs [] s

@@ -42,6 +42,8 @@ pub data Event : Type 0 where
   Declares : Name → Event
   Aliases : Name → Event
   Member : Name → Event
+  -- an expression is a dimension
+  Dimension : Expr → Event
   -- a block begins and ends
   Begins : Event
   Ends : Event
@@ -125,7 +127,7 @@ unfoldable mutual
 
   pub in_bounds : {n : _} → Row_of-Bound n → List Event
   in_bounds end_of-Bound = []
-  in_bounds (more_of-Bound p x rest) = in_expr x ++ in_bounds rest
+  in_bounds (more_of-Bound p x rest) = (in_expr x ++ Dimension x ∷ []) ++ in_bounds rest
 
 abbrev pub in_bound : Bound → List Event
-in_bound b = in_expr (out-Bound b).size
+in_bound b = in_expr (out-Bound b).size ++ Dimension (out-Bound b).size ∷ []

@@ -1,6 +1,6 @@
 //! Laws of refusals.
 
-ghost use Rattle.sa_rules.specs.Rules.{IsRule, IsExact, IsMissingMain, undeclared, declared_twice, no_type, misqualified, astray};
+ghost use Rattle.sa_rules.specs.Rules.{IsRule, IsExact, IsMissingMain, undeclared, declared_twice, no_type, oversized, misqualified, astray};
 ghost use Rattle.sa_rules.specs.Sites.{StandAtSites};
 
 /// Refusals with code 1 stand exactly at the names of variables that aren't visible there.
@@ -21,6 +21,13 @@ pub fn names_are_declared_once()
 pub fn types_are_types()
     ensures listed { IsRule 3 no_type }
     ensures exact { IsExact 3 no_type }
+{}
+
+/// Refusals with code 19 stand exactly at the first tokens of dimensions that are constant expressions with a value below 1 or
+/// above 16,777,216.
+pub fn dimensions_are_in_range()
+    ensures listed { IsRule 19 oversized }
+    ensures exact { IsExact 19 oversized }
 {}
 
 /// Refusals with code 21 stand exactly at each `volatile` elsewhere than at file scope before whole numbers without dimensions,

@@ -9,6 +9,7 @@
 mod laws;
 
 pub use laws::{
-    names_are_declared, names_are_declared_once, other_refusals_stand_at_their_sites,
-    qualifiers_stand_in_place, there_is_a_main, types_are_types, waits_stand_in_place,
+    dimensions_are_in_range, names_are_declared, names_are_declared_once,
+    other_refusals_stand_at_their_sites, qualifiers_stand_in_place, there_is_a_main,
+    types_are_types, waits_stand_in_place,
 };
