@@ -13,7 +13,7 @@ use Rattle.sa_typer.specs.Typing.{Typed, Gives, fault}
 use Rattle.sa_typer.specs.Units as unit
 use Rattle.sa_typer.specs.Units.{has_entry, all_items, refusals}
 use Rattle.sa_rules.specs.Events.{Event}
-use Rattle.sa_rules.specs.Rules.{Rule, oversized, undeclared, declared_twice, no_type, misqualified, astray, with_place, places, at_if, place_of, refused_by, HasNoBadInitialiser, IsRule, no_main, IsMissingMain}
+use Rattle.sa_rules.specs.Rules.{Rule, no_constant, oversized, undeclared, declared_twice, no_type, misqualified, astray, with_place, places, at_if, place_of, refused_by, HasNoBadInitialiser, IsRule, no_main, IsMissingMain}
 use Rattle.sa_rules.specs.Sight.{Sight, nothing_seen, see, after}
 use Rattle.sa_rules.specs.Texts.{text}
 use Rattle.sa_rules.proofs.Walks.{is_noted, is_noted_fault, noted, faults_at, broken, Noted, note, noting, state, value}
@@ -32,39 +32,44 @@ own : (c : ℕ) (o : Option Pos) (rest : List Fault) → (c == c) ≡ true → r
 own c None rest h = refl
 own c (Some p) rest h = ap (λ (b : Bool). cons_option (at_if b p) (refused_by c rest)) h
 
-abbrev six : Option Pos → Option Pos → Option Pos → Option Pos → Option Pos → Option Pos → List Fault
-six z a b c d e = faults_at 19 z ++ (faults_at 1 a ++ (faults_at 2 b ++ (faults_at 3 c ++ (faults_at 21 d ++ faults_at 23 e))))
+abbrev seven : Option Pos → Option Pos → Option Pos → Option Pos → Option Pos → Option Pos → Option Pos → List Fault
+seven y z a b c d e = faults_at 18 y ++ (faults_at 19 z ++ (faults_at 1 a ++ (faults_at 2 b ++ (faults_at 3 c ++ (faults_at 21 d ++ faults_at 23 e)))))
 
 none_of : (c k : ℕ) (o : Option Pos) → (k == c) ≡ false → refused_by c (faults_at k o) ≡ []
 none_of c k None h = refl
 none_of c k (Some p) h = ap (λ (b : Bool). cons_option (at_if b p) []) h
 
-first_code : (z a b c d e : Option Pos) → refused_by 1 (six z a b c d e) ≡ listed a
-first_code z a b c d e =
-    other 1 19 z _ refl ∙ own 1 a _ refl ∙ ap (λ (ps : List Pos). listed a ++ ps) (other 1 2 b _ refl ∙ other 1 3 c _ refl ∙ other 1 21 d _ refl ∙ none_of 1 23 e refl) ∙ append-nil (listed a)
+first_code : (y z a b c d e : Option Pos) → refused_by 1 (seven y z a b c d e) ≡ listed a
+first_code y z a b c d e =
+    other 1 18 y _ refl ∙ other 1 19 z _ refl ∙ own 1 a _ refl ∙ ap (λ (ps : List Pos). listed a ++ ps) (other 1 2 b _ refl ∙ other 1 3 c _ refl ∙ other 1 21 d _ refl ∙ none_of 1 23 e refl) ∙ append-nil (listed a)
 
-second_code : (z a b c d e : Option Pos) → refused_by 2 (six z a b c d e) ≡ listed b
-second_code z a b c d e =
-    other 2 19 z _ refl ∙ other 2 1 a _ refl ∙ own 2 b _ refl ∙ ap (λ (ps : List Pos). listed b ++ ps) (other 2 3 c _ refl ∙ other 2 21 d _ refl ∙ none_of 2 23 e refl) ∙ append-nil (listed b)
+second_code : (y z a b c d e : Option Pos) → refused_by 2 (seven y z a b c d e) ≡ listed b
+second_code y z a b c d e =
+    other 2 18 y _ refl ∙ other 2 19 z _ refl ∙ other 2 1 a _ refl ∙ own 2 b _ refl ∙ ap (λ (ps : List Pos). listed b ++ ps) (other 2 3 c _ refl ∙ other 2 21 d _ refl ∙ none_of 2 23 e refl) ∙ append-nil (listed b)
 
-third_code : (z a b c d e : Option Pos) → refused_by 3 (six z a b c d e) ≡ listed c
-third_code z a b c d e =
-    other 3 19 z _ refl ∙ other 3 1 a _ refl ∙ other 3 2 b _ refl ∙ own 3 c _ refl ∙ ap (λ (ps : List Pos). listed c ++ ps) (other 3 21 d _ refl ∙ none_of 3 23 e refl) ∙ append-nil (listed c)
+third_code : (y z a b c d e : Option Pos) → refused_by 3 (seven y z a b c d e) ≡ listed c
+third_code y z a b c d e =
+    other 3 18 y _ refl ∙ other 3 19 z _ refl ∙ other 3 1 a _ refl ∙ other 3 2 b _ refl ∙ own 3 c _ refl ∙ ap (λ (ps : List Pos). listed c ++ ps) (other 3 21 d _ refl ∙ none_of 3 23 e refl) ∙ append-nil (listed c)
 
-fourth_code : (z a b c d e : Option Pos) → refused_by 21 (six z a b c d e) ≡ listed d
-fourth_code z a b c d e =
-    other 21 19 z _ refl ∙ other 21 1 a _ refl ∙ other 21 2 b _ refl ∙ other 21 3 c _ refl ∙ own 21 d _ refl ∙ ap (λ (ps : List Pos). listed d ++ ps) (none_of 21 23 e refl) ∙ append-nil (listed d)
+fourth_code : (y z a b c d e : Option Pos) → refused_by 21 (seven y z a b c d e) ≡ listed d
+fourth_code y z a b c d e =
+    other 21 18 y _ refl ∙ other 21 19 z _ refl ∙ other 21 1 a _ refl ∙ other 21 2 b _ refl ∙ other 21 3 c _ refl ∙ own 21 d _ refl ∙ ap (λ (ps : List Pos). listed d ++ ps) (none_of 21 23 e refl) ∙ append-nil (listed d)
 
-fifth_code : (z a b c d e : Option Pos) → refused_by 23 (six z a b c d e) ≡ listed e
-fifth_code z a b c d None = other 23 19 z _ refl ∙ other 23 1 a _ refl ∙ other 23 2 b _ refl ∙ other 23 3 c _ refl ∙ other 23 21 d _ refl
-fifth_code z a b c d (Some p) = other 23 19 z _ refl ∙ other 23 1 a _ refl ∙ other 23 2 b _ refl ∙ other 23 3 c _ refl ∙ other 23 21 d _ refl
+fifth_code : (y z a b c d e : Option Pos) → refused_by 23 (seven y z a b c d e) ≡ listed e
+fifth_code y z a b c d None = other 23 18 y _ refl ∙ other 23 19 z _ refl ∙ other 23 1 a _ refl ∙ other 23 2 b _ refl ∙ other 23 3 c _ refl ∙ other 23 21 d _ refl
+fifth_code y z a b c d (Some p) = other 23 18 y _ refl ∙ other 23 19 z _ refl ∙ other 23 1 a _ refl ∙ other 23 2 b _ refl ∙ other 23 3 c _ refl ∙ other 23 21 d _ refl
 
-no_code : (z a b c d e : Option Pos) → refused_by 22 (six z a b c d e) ≡ []
-no_code z a b c d e = other 22 19 z _ refl ∙ other 22 1 a _ refl ∙ other 22 2 b _ refl ∙ other 22 3 c _ refl ∙ other 22 21 d _ refl ∙ none_of 22 23 e refl
+no_code : (y z a b c d e : Option Pos) → refused_by 22 (seven y z a b c d e) ≡ []
+no_code y z a b c d e = other 22 18 y _ refl ∙ other 22 19 z _ refl ∙ other 22 1 a _ refl ∙ other 22 2 b _ refl ∙ other 22 3 c _ refl ∙ other 22 21 d _ refl ∙ none_of 22 23 e refl
 
-size_code : (z a b c d e : Option Pos) → refused_by 19 (six z a b c d e) ≡ listed z
-size_code z a b c d e =
-    own 19 z _ refl ∙ ap (λ (ps : List Pos). listed z ++ ps) (other 19 1 a _ refl ∙ other 19 2 b _ refl ∙ other 19 3 c _ refl ∙ other 19 21 d _ refl ∙ none_of 19 23 e refl) ∙ append-nil (listed z)
+size_code : (y z a b c d e : Option Pos) → refused_by 19 (seven y z a b c d e) ≡ listed z
+size_code y z a b c d e =
+    other 19 18 y _ refl ∙ own 19 z _ refl ∙ ap (λ (ps : List Pos). listed z ++ ps) (other 19 1 a _ refl ∙ other 19 2 b _ refl ∙ other 19 3 c _ refl ∙ other 19 21 d _ refl ∙ none_of 19 23 e refl) ∙ append-nil (listed z)
+
+constant_code : (y z a b c d e : Option Pos) → refused_by 18 (seven y z a b c d e) ≡ listed y
+constant_code y z a b c d e =
+    own 18 y _ refl ∙ ap (λ (ps : List Pos). listed y ++ ps) (other 18 19 z _ refl ∙ other 18 1 a _ refl ∙ other 18 2 b _ refl ∙ other 18 3 c _ refl ∙ other 18 21 d _ refl ∙ none_of 18 23 e refl)
+    ∙ append-nil (listed y)
 
 -- ---- what all events are refused for
 listed_with : (o : Option Pos) (ps : List Pos) → listed o ++ ps ≡ with_place o ps
@@ -111,39 +116,44 @@ unfolding refusals
 but_end c u end h = walk_end c end (all_items u) h
 
 -- ---- which codes are noted
-all_false : (z a b c d e f : Bool) → (z || a || b || c || d || e || f) ≡ false → (z ≡ false) × (a ≡ false) × (b ≡ false) × (c ≡ false) × (d ≡ false) × (e ≡ false) × (f ≡ false)
-all_false true a b c d e f h = cc
-all_false false true b c d e f h = cc
-all_false false false true c d e f h = cc
-all_false false false false true d e f h = cc
-all_false false false false false true e f h = cc
-all_false false false false false false true f h = cc
-all_false false false false false false false true h = cc
-all_false false false false false false false false h = (refl, refl, refl, refl, refl, refl, refl)
+all_false : (y z a b c d e f : Bool) → (y || z || a || b || c || d || e || f) ≡ false → (y ≡ false) × (z ≡ false) × (a ≡ false) × (b ≡ false) × (c ≡ false) × (d ≡ false) × (e ≡ false) × (f ≡ false)
+all_false true z a b c d e f h = cc
+all_false false true a b c d e f h = cc
+all_false false false true b c d e f h = cc
+all_false false false false true c d e f h = cc
+all_false false false false false true d e f h = cc
+all_false false false false false false true e f h = cc
+all_false false false false false false false true f h = cc
+all_false false false false false false false false true h = cc
+all_false false false false false false false false false h = (refl, refl, refl, refl, refl, refl, refl, refl)
 
-is_own_code : (k : ℕ) → is_noted k ≡ false → ((k == 19) ≡ false) × ((k == 1) ≡ false) × ((k == 2) ≡ false) × ((k == 3) ≡ false) × ((k == 21) ≡ false) × ((k == 22) ≡ false) × ((k == 23) ≡ false)
-is_own_code k h = all_false (k == 19) (k == 1) (k == 2) (k == 3) (k == 21) (k == 22) (k == 23) h
+is_own_code : (k : ℕ) → is_noted k ≡ false → ((k == 18) ≡ false) × ((k == 19) ≡ false) × ((k == 1) ≡ false) × ((k == 2) ≡ false) × ((k == 3) ≡ false) × ((k == 21) ≡ false) × ((k == 22) ≡ false) × ((k == 23) ≡ false)
+is_own_code k h = all_false (k == 18) (k == 19) (k == 1) (k == 2) (k == 3) (k == 21) (k == 22) (k == 23) h
 
 -- ---- the rules
 pub undeclared_rule : IsRule 1 undeclared
-undeclared_rule u end h = but_end 1 u end refl ∙ walk_refused 1 undeclared (λ m e. first_code (oversized m e) (undeclared m e) (declared_twice m e) (no_type m e) (misqualified m e) (astray m e)) (λ k n. (is_own_code k n).1) u end h
+undeclared_rule u end h = but_end 1 u end refl ∙ walk_refused 1 undeclared (λ m e. first_code (no_constant m e) (oversized m e) (undeclared m e) (declared_twice m e) (no_type m e) (misqualified m e) (astray m e)) (λ k n. (is_own_code k n).2) u end h
 
 pub twice_rule : IsRule 2 declared_twice
-twice_rule u end h = but_end 2 u end refl ∙ walk_refused 2 declared_twice (λ m e. second_code (oversized m e) (undeclared m e) (declared_twice m e) (no_type m e) (misqualified m e) (astray m e)) (λ k n. (is_own_code k n).2) u end h
+twice_rule u end h = but_end 2 u end refl ∙ walk_refused 2 declared_twice (λ m e. second_code (no_constant m e) (oversized m e) (undeclared m e) (declared_twice m e) (no_type m e) (misqualified m e) (astray m e)) (λ k n. (is_own_code k n).3) u end h
 
 pub type_rule : IsRule 3 no_type
-type_rule u end h = but_end 3 u end refl ∙ walk_refused 3 no_type (λ m e. third_code (oversized m e) (undeclared m e) (declared_twice m e) (no_type m e) (misqualified m e) (astray m e)) (λ k n. (is_own_code k n).3) u end h
+type_rule u end h = but_end 3 u end refl ∙ walk_refused 3 no_type (λ m e. third_code (no_constant m e) (oversized m e) (undeclared m e) (declared_twice m e) (no_type m e) (misqualified m e) (astray m e)) (λ k n. (is_own_code k n).4) u end h
 
 pub qualifier_rule : IsRule 21 misqualified
 qualifier_rule u end h =
-    but_end 21 u end refl ∙ walk_refused 21 misqualified (λ m e. fourth_code (oversized m e) (undeclared m e) (declared_twice m e) (no_type m e) (misqualified m e) (astray m e)) (λ k n. (is_own_code k n).4) u end h
+    but_end 21 u end refl ∙ walk_refused 21 misqualified (λ m e. fourth_code (no_constant m e) (oversized m e) (undeclared m e) (declared_twice m e) (no_type m e) (misqualified m e) (astray m e)) (λ k n. (is_own_code k n).5) u end h
+
+pub constant_rule : IsRule 18 no_constant
+constant_rule u end h =
+    but_end 18 u end refl ∙ walk_refused 18 no_constant (λ m e. constant_code (no_constant m e) (oversized m e) (undeclared m e) (declared_twice m e) (no_type m e) (misqualified m e) (astray m e)) (λ k n. (is_own_code k n).0) u end h
 
 pub size_rule : IsRule 19 oversized
 size_rule u end h =
-    but_end 19 u end refl ∙ walk_refused 19 oversized (λ m e. size_code (oversized m e) (undeclared m e) (declared_twice m e) (no_type m e) (misqualified m e) (astray m e)) (λ k n. (is_own_code k n).0) u end h
+    but_end 19 u end refl ∙ walk_refused 19 oversized (λ m e. size_code (no_constant m e) (oversized m e) (undeclared m e) (declared_twice m e) (no_type m e) (misqualified m e) (astray m e)) (λ k n. (is_own_code k n).1) u end h
 
 pub wait_rule : IsRule 23 astray
-wait_rule u end h = but_end 23 u end refl ∙ walk_refused 23 astray (λ m e. fifth_code (oversized m e) (undeclared m e) (declared_twice m e) (no_type m e) (misqualified m e) (astray m e)) (λ k n. (is_own_code k n).6) u end h
+wait_rule u end h = but_end 23 u end refl ∙ walk_refused 23 astray (λ m e. fifth_code (no_constant m e) (oversized m e) (undeclared m e) (declared_twice m e) (no_type m e) (misqualified m e) (astray m e)) (λ k n. (is_own_code k n).7) u end h
 
 -- ---- main
 abbrev never : Rule
@@ -167,4 +177,4 @@ pub main_rule : IsMissingMain
 unfolding refusals
 main_rule u end h =
     main_end end (after nothing_seen (text u)).entry (all_items u) (whole u end h).entry
-    (walk_refused 22 never (λ m e. no_code (oversized m e) (undeclared m e) (declared_twice m e) (no_type m e) (misqualified m e) (astray m e)) (λ k n. (is_own_code k n).5) u end h ∙ never_places nothing_seen (text u))
+    (walk_refused 22 never (λ m e. no_code (no_constant m e) (oversized m e) (undeclared m e) (declared_twice m e) (no_type m e) (misqualified m e) (astray m e)) (λ k n. (is_own_code k n).6) u end h ∙ never_places nothing_seen (text u))

@@ -16,6 +16,7 @@ use Rattle.sa_syntax.specs.declared.decl.Qualifier.TheVariants.{Const, Volatile,
 use Rattle.sa_syntax.specs.declared.decl.Specifiers.{Specifiers, out-Specifiers}
 use Rattle.sa_syntax.specs.declared.decl.Start.{Start as Begins}
 use Rattle.sa_syntax.specs.declared.decl.Start.TheVariants as begins
+use Rattle.sa_syntax.specs.declared.expr.Expr.{Expr}
 use Rattle.sa_syntax.specs.declared.stmt.Local.{Local}
 use Rattle.sa_syntax.specs.declared.stmt.LocalDeclr.{LocalDeclr}
 use Rattle.sa_syntax.specs.declared.stmt.LocalStart.{LocalStart}
@@ -34,37 +35,32 @@ use Rattle.sa_typer.specs.declared.types.Element.{Element}
 use Rattle.sa_typer.specs.declared.types.Element.TheVariants as el
 use Rattle.sa_typer.specs.declared.types.Ty.{Ty}
 use Rattle.sa_typer.specs.Declarations.{initial, global_by, global, next_global, declared, input_type, input_by, are_bare, is_struct, begun_with, begun_by, begun, local_as, local_of, next_local, locals, local}
+use Rattle.sa_typer.specs.Expressions.{expr}
 use Rattle.sa_typer.specs.First.{expr_pos, init_pos}
 use Rattle.sa_typer.specs.Forms.{form_of}
 use Rattle.sa_typer.specs.Initialisers.{item, within, valued, slotted, init, braced, values, zeros}
 use Rattle.sa_typer.specs.Operands.{sort_of, is_object, known_value, no_object}
 use Rattle.sa_typer.specs.Structures.{slot}
 use Rattle.sa_typer.specs.Types.{qualifier, qualifiers, is_misplaced, has_volatile, shape_of}
-use Rattle.sa_typer.specs.Typing.{Typed, Typing, Gives, pure, each, refused, refuse_if, fault}
-use Rattle.sa_rules.specs.Events.{Event, Misplaced, Volatile_before_bare, Declares, in_bound}
+use Rattle.sa_typer.specs.Values.{constant}
+use Rattle.sa_typer.specs.Typing.{Typed, Typing, Gives, and_then, pure, each, refused, refuse_if, fault}
+use Rattle.sa_rules.specs.Events.{Event, Misplaced, Volatile_before_bare, Initial, Declares, in_bound}
 use Rattle.sa_rules.specs.Rules.{place_of, refused_by, at_if}
 use Rattle.sa_rules.specs.Sight.{Kind, Open, Sight, see, is_structure}
-use Rattle.sa_rules.specs.Texts.{in_init, in_inits, in_start, in_global, at_file_scope, qualifiers_at_file_scope, in_globals, in_object, in_local_start, in_local_declr, in_local}
-use Rattle.sa_rules.proofs.Walks.{faults_at, kind_of, Clear, Reads, Quiet, quiet_gives, quiet_refuses, quiet_then, quiet_unless, quiet, bind, ends, so, from, all_parts, refused_clear, refused_noted}
+use Rattle.sa_rules.specs.Values.{value_of}
+use Rattle.sa_rules.specs.Texts.{in_init, in_inits, in_local_init, in_start, in_global, at_file_scope, qualifiers_at_file_scope, in_globals, in_object, in_local_start, in_local_declr, in_local}
+use Rattle.sa_rules.proofs.Walks.{faults_at, kind_of, name_kind, seen_as, state, value, then_here, Clear, Reads, Quiet, quiet_gives, quiet_refuses, quiet_then, quiet_unless, quiet, bind, ends, so, from, all_parts, refused_clear, refused_noted}
 use Rattle.sa_rules.proofs.Steps.{At, Last, forget, one, one_as, refused_one, nothing_added}
 use Rattle.sa_rules.proofs.Names.{variable_reads, input_reads}
 use Rattle.sa_rules.proofs.Qualifiers.{plain_qualifiers}
-use Rattle.sa_rules.proofs.QuietParts.{constant_quiet, no_object_quiet, quiet_if}
+use Rattle.sa_rules.proofs.QuietParts.{no_object_quiet, quiet_if}
+use Rattle.sa_rules.proofs.Dimensions.{known_there, constant_reads}
 use Rattle.sa_rules.proofs.Trees.{expr_reads, objects_reads, dimensions_reads}
 
 -- ---- initialisers
 within_quiet : (p : Pos) (num : Num) (o : Option ℤ) (s : Typer) → Quiet s (within p num o s)
 within_quiet p num None s = quiet_gives
 within_quiet p num (Some z) s = quiet_if (is_of num z) _ _ quiet_gives (quiet_refuses 20 p refl)
-
-item_quiet : (p : Pos) (num : Num) (x : Operand) (s : Typer) → Quiet s (item p num x s)
-unfolding item
-item_quiet p num x s = quiet_then (no_object_quiet x s) (λ a t. quiet_then (constant_quiet p (known_value x) t) (λ o u. within_quiet p num o u))
-
-valued_quiet : (p : Pos) (f : Form) (x : Operand) (zs : List ℤ) (s : Typer) → Quiet s (valued p f x zs s)
-valued_quiet p (form.Scalar num) x zs s = quiet_then (item_quiet p num x s) (λ z t. quiet_gives)
-valued_quiet p (form.Struct k) x zs s = quiet_refuses 20 p refl
-valued_quiet p (form.Array n) x zs s = quiet_refuses 20 p refl
 
 -- after such a refusal an initialiser is refused
 not_clear : (p : Pos) (s : Typer) → Clear (refused 20 p s) → ⊥
@@ -75,6 +71,24 @@ not_clear p s c = no_end (refused_by 20 s.faults) p (sym (filter_map-append (pla
   no_end (x ∷ xs) p h = cc
 
 module _ (os : List Open) (found : Bool) where
+  -- an item that has to be known
+  item_reads : (e : Expr) (num : Num) (i : Operand) (s : Typer) → known_value i ≡ value_of (seen_as name_kind s.names) e → Reads (At os found) s (Initial e ∷ []) (λ z. At os found) (item (expr_pos e) num i s)
+  unfolding item
+  item_reads e num i s h =
+      then_here (λ u t. and_then (constant (expr_pos e) (known_value i) t) (within (expr_pos e) num)) (quiet (no_object_quiet i s))
+      (ends (constant_reads os found e (known_value i) (state (no_object i s)) (ap (λ (names : _). value_of (seen_as name_kind names) e) (no_object_quiet i s).names ∙ sym h))
+      (λ o u. within_quiet (expr_pos e) num o u))
+
+  -- an item of which no number is made is refused as an initialiser
+  no_item : (p : Pos) (zs : List ℤ) (es : List Event) (s : Typer) → Reads (At os found) s es (λ zs. At os found) (Gives zs (refused 20 p s))
+  no_item p zs es s = record { clear = refused_clear 20 p s; reads = λ c n k x. absurd (not_clear p s c) }
+
+  valued_reads : (e : Expr) (f : Form) (i : Operand) (zs : List ℤ) (s : Typer) → known_value i ≡ value_of (seen_as name_kind s.names) e →
+      Reads (At os found) s (Initial e ∷ []) (λ zs. At os found) (valued (expr_pos e) f i zs s)
+  valued_reads e (form.Scalar num) i zs s h = ends (item_reads e num i s h) (λ z t. quiet_gives)
+  valued_reads e (form.Struct k) i zs s h = no_item (expr_pos e) zs _ s
+  valued_reads e (form.Array n) i zs s h = no_item (expr_pos e) zs _ s
+
   slotted_reads : (p : Pos) (o : Option Shape) (zs : List ℤ) (m : Shape → Typing (List ℤ)) (es : List Event) (s : Typer) → ((shape : Shape) → Reads (At os found) s es (λ zs. At os found) (m shape s)) →
       Reads (At os found) s es (λ zs. At os found) (slotted p o zs m s)
   slotted_reads p None zs m es s h = record { clear = refused_clear 20 p s; reads = λ c n k x. absurd (not_clear p s c) }
@@ -84,7 +98,8 @@ module _ (os : List Open) (found : Bool) where
     unfolding init in_init
 
     init_reads : (i : Init) (shape : Shape) (zs : List ℤ) (s : Typer) → Reads (At os found) s (in_init i) (λ zs. At os found) (init i shape zs s)
-    init_reads (Value e) shape zs s = ends (expr_reads found os e s) (λ x t. valued_quiet (expr_pos e) (form_of shape) x zs t)
+    init_reads (Value e) shape zs s =
+        then_here (λ x. valued (expr_pos e) (form_of shape) x zs) (expr_reads found os e s) (valued_reads e (form_of shape) (value (expr e s)) zs (state (expr e s)) (known_there e s))
     init_reads (Braces' p n row) shape zs s = braced_reads row p shape 0 zs s
 
     braced_reads : {n : _} (row : Row_of-Init n) (p : Pos) (shape : Shape) (k : ℕ) (zs : List ℤ) (s : Typer) → Reads (At os found) s (in_inits row) (λ zs. At os found) (braced row p shape k zs s)
@@ -193,8 +208,8 @@ module _ (os : List Open) (found : Bool) where
   begun_with_quiet p q (form.Struct k) x s = quiet_refuses 20 q refl
   begun_with_quiet p q (form.Array n) x s = quiet_refuses 20 q refl
 
-  begun_by_reads : (p : Pos) (shape : Shape) (i : Init) (s : Typer) → Reads (At os found) s (in_init i) (λ b. At os found) (begun_by p shape i s)
-  unfolding inits.out-Init denote.Hole.Carrier.out in_init
+  begun_by_reads : (p : Pos) (shape : Shape) (i : Init) (s : Typer) → Reads (At os found) s (in_local_init i) (λ b. At os found) (begun_by p shape i s)
+  unfolding inits.out-Init denote.Hole.Carrier.out in_local_init in_init
   begun_by_reads p shape (Value e) s = ends (expr_reads found os e s) (λ x t. begun_with_quiet p (expr_pos e) (form_of shape) x t)
   begun_by_reads p shape (Braces' q n row) s = ends (values_reads (Braces' q n row) shape s) (λ zs t. quiet_gives)
 

@@ -1,4 +1,4 @@
--- Dimensions.
+-- Dimensions, and initial values that have to be known.
 use Rattle.std.proofs.Common.{◌≡◌, ℕ, Bool, true, false, List, [], ◌∷◌, ◌++◌, refl, sym, ap, subst, ◌∙◌, Option, Some, None}
 use Rattle.std.specs.Prelude.{ℤ, unsigned_abs, if◌then◌else◌}
 use Rattle.sa_base.specs.declared.pos.Pos.{Pos}
@@ -6,6 +6,7 @@ use Rattle.sa_syntax.specs.declared.expr.Expr.{Expr}
 use Rattle.sa_typer.specs.declared.constant.Value.{Value}
 use Rattle.sa_typer.specs.declared.constant.Value.TheVariants as v
 use Rattle.sa_typer.specs.declared.operand.Operand.{Operand}
+use Rattle.sa_typer.specs.declared.typer.Fault.{Fault}
 use Rattle.sa_typer.specs.declared.typer.Typer.{Typer}
 use Rattle.sa_typer.specs.Constants.{Constant}
 use Rattle.sa_typer.specs.Definitions.{is_dimension, dimension_by, dimension}
@@ -15,13 +16,13 @@ use Rattle.sa_typer.specs.Operands.{known_value, no_object}
 use Rattle.sa_typer.specs.Scopes.{Scope}
 use Rattle.sa_typer.specs.Typing.{Typed, Typing, Gives, and_then, pure, refuse, refused, fault, ◌>>◌}
 use Rattle.sa_typer.specs.Values.{constant}
-use Rattle.sa_rules.specs.Events.{Event, Dimension}
-use Rattle.sa_rules.specs.Rules.{at_unless, out_of_range}
+use Rattle.sa_rules.specs.Events.{Event, Dimension, Initial}
+use Rattle.sa_rules.specs.Rules.{at_unless, unless_known, out_of_range}
 use Rattle.sa_rules.specs.Sight.{Kind, Open, Sight, see}
 use Rattle.sa_rules.specs.Values.{value_of}
 use Rattle.sa_rules.proofs.ConstantValues.{value_gets}
 use Rattle.sa_rules.proofs.QuietParts.{no_object_quiet}
-use Rattle.sa_rules.proofs.Steps.{At, one, one_as, refused_one, nothing_added, other_added}
+use Rattle.sa_rules.proofs.Steps.{At, one, one_as, refused_one, nothing_added}
 use Rattle.sa_rules.proofs.Walks.{broken, faults_at, name_kind, seen_as, state, value, Reads, quiet, then_here, refused_clear, refused_noted}
 
 -- what is known of an expression once it is typed
@@ -29,9 +30,15 @@ pub known_there : (x : Expr) (s : Typer) → known_value (value (expr x s)) ≡ 
 known_there x s = let g = (value_gets (seen_as name_kind s.names) x s).gets refl in g.0 ∙ ap (λ (names : Scope (Option Kind)). value_of names x) (sym g.1)
 
 module _ (os : List Open) (found : Bool) (x : Expr) where
-  breaks : (m : Sight) (s : Typer) (w : Value) → m.names ≡ seen_as name_kind s.names → value_of (seen_as name_kind s.names) x ≡ w → broken m (Dimension x) ≡ faults_at 19 (out_of_range (expr_pos x) w) ++ []
-  breaks m s w ns h =
-      ap (λ (names : Scope (Option Kind)). faults_at 19 (out_of_range (expr_pos x) (value_of names x)) ++ []) ns ∙ ap (λ (k : Value). faults_at 19 (out_of_range (expr_pos x) k) ++ []) h
+  abbrev Breaking : Value → List Fault
+  Breaking w = faults_at 18 (unless_known (expr_pos x) w) ++ (faults_at 19 (out_of_range (expr_pos x) w) ++ [])
+
+  breaks : (m : Sight) (s : Typer) (w : Value) → m.names ≡ seen_as name_kind s.names → value_of (seen_as name_kind s.names) x ≡ w → broken m (Dimension x) ≡ Breaking w
+  breaks m s w ns h = ap (λ (names : Scope (Option Kind)). Breaking (value_of names x)) ns ∙ ap (λ (k : Value). Breaking k) h
+
+  item_breaks : (m : Sight) (s : Typer) (w : Value) → m.names ≡ seen_as name_kind s.names → value_of (seen_as name_kind s.names) x ≡ w → broken m (Initial x) ≡ faults_at 18 (unless_known (expr_pos x) w) ++ []
+  item_breaks m s w ns h =
+      ap (λ (names : Scope (Option Kind)). faults_at 18 (unless_known (expr_pos x) (value_of names x)) ++ []) ns ∙ ap (λ (k : Value). faults_at 18 (unless_known (expr_pos x) k) ++ []) h
 
   size_by : (c : Constant) (b : Bool) (s : Typer) → is_dimension c.value ≡ b → value_of (seen_as name_kind s.names) x ≡ v.Is c →
       Reads (At os found) s (Dimension x ∷ []) (λ (n : ℕ). At os found) ((if b then pure (unsigned_abs c.value) else (refuse 19 (expr_pos x) >> pure 1)) s)
@@ -48,9 +55,9 @@ module _ (os : List Open) (found : Bool) (x : Expr) where
       Reads (At os found) s (Dimension x ∷ []) (λ n. At os found) (and_then (constant (expr_pos x) w s) (dimension_by (expr_pos x)))
   unfolding see
   value_reads v.Varies s h =
-      one (refused_clear 18 (expr_pos x) s) (λ m ns ts a. refused_one 18 (expr_pos x) m [] refl (breaks m s v.Varies ns h) ns ts (other_added 18 (expr_pos x) s refl) a)
+      one (refused_clear 18 (expr_pos x) s) (λ m ns ts a. refused_one 18 (expr_pos x) m (fault 18 (expr_pos x) ∷ []) refl (breaks m s v.Varies ns h) ns ts (refused_noted 18 (expr_pos x) s) a)
   value_reads v.Errs s h =
-      one (refused_clear 18 (expr_pos x) s) (λ m ns ts a. refused_one 18 (expr_pos x) m [] refl (breaks m s v.Errs ns h) ns ts (other_added 18 (expr_pos x) s refl) a)
+      one (refused_clear 18 (expr_pos x) s) (λ m ns ts a. refused_one 18 (expr_pos x) m (fault 18 (expr_pos x) ∷ []) refl (breaks m s v.Errs ns h) ns ts (refused_noted 18 (expr_pos x) s) a)
   value_reads v.Unknown s h = one (λ k. k) (λ m ns ts a. one_as m [] refl (breaks m s v.Unknown ns h) ns ts (nothing_added s) a)
   value_reads (v.Is c) s h = size_by c (is_dimension c.value) s refl h
 
@@ -59,3 +66,14 @@ module _ (os : List Open) (found : Bool) (x : Expr) where
   dimension_reads i s h =
       then_here (λ u t. and_then (constant (expr_pos x) (known_value i) t) (dimension_by (expr_pos x))) (quiet (no_object_quiet i s))
       (value_reads (known_value i) (state (no_object i s)) (ap (λ (names : _). value_of (seen_as name_kind names) x) (no_object_quiet i s).names ∙ sym h))
+
+  pub constant_reads : (w : Value) (s : Typer) → value_of (seen_as name_kind s.names) x ≡ w → Reads (At os found) s (Initial x ∷ []) (λ o. At os found) (constant (expr_pos x) w s)
+  unfolding see
+  constant_reads v.Varies s h =
+      one (refused_clear 18 (expr_pos x) s)
+      (λ m ns ts a. refused_one 18 (expr_pos x) m (fault 18 (expr_pos x) ∷ []) refl (item_breaks m s v.Varies ns h) ns ts (refused_noted 18 (expr_pos x) s) a)
+  constant_reads v.Errs s h =
+      one (refused_clear 18 (expr_pos x) s)
+      (λ m ns ts a. refused_one 18 (expr_pos x) m (fault 18 (expr_pos x) ∷ []) refl (item_breaks m s v.Errs ns h) ns ts (refused_noted 18 (expr_pos x) s) a)
+  constant_reads v.Unknown s h = one (λ k. k) (λ m ns ts a. one_as m [] refl (item_breaks m s v.Unknown ns h) ns ts (nothing_added s) a)
+  constant_reads (v.Is c) s h = one (λ k. k) (λ m ns ts a. one_as m [] refl (item_breaks m s (v.Is c) ns h) ns ts (nothing_added s) a)

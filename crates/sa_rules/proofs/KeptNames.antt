@@ -13,6 +13,8 @@ use Rattle.sa_syntax.specs.declared.expr.Expr.{Expr, Number, Place', Bracket', P
 use Rattle.sa_syntax.specs.declared.expr.PlaceBase.{PlaceBase}
 use Rattle.sa_syntax.specs.declared.expr.PlaceBase.TheVariants as place
 use Rattle.sa_syntax.specs.declared.expr.Step.{Step, Index', Field, Arrow}
+use Rattle.sa_typer.specs.declared.constant.Value.{Value}
+use Rattle.sa_typer.specs.declared.constant.Value.TheVariants as v
 use Rattle.sa_typer.specs.declared.operand.Left.{Left}
 use Rattle.sa_typer.specs.declared.operand.Operand.{Operand}
 use Rattle.sa_typer.specs.declared.operand.Spot.{Spot}
@@ -34,8 +36,9 @@ use Rattle.sa_typer.specs.Places.{root_by, pointed_by, begins}
 use Rattle.sa_typer.specs.Scopes.{meaning_of, is_visible, with_name, count}
 use Rattle.sa_typer.specs.Types.{num_of, qualifier, qualifiers, is_misplaced, scalar, defined, tagged, type_name, not_void, object, whole}
 use Rattle.sa_typer.specs.Typing.{Typed, Typing, Gives, and_then, each, pure, refuse, refused, refuse_if, ◌>>◌}
+use Rattle.sa_typer.specs.Values.{constant}
 use Rattle.sa_rules.proofs.Walks.{state, Quiet, quiet_gives}
-use Rattle.sa_rules.proofs.QuietParts.{constant_quiet, no_object_quiet, beside_quiet, prefixed_quiet, cast_quiet, linked_quiet, index_quiet, field_quiet, arrow_quiet}
+use Rattle.sa_rules.proofs.QuietParts.{no_object_quiet, beside_quiet, prefixed_quiet, cast_quiet, linked_quiet, index_quiet, field_quiet, arrow_quiet}
 
 pub record Keeps (s : Typer) {A : Type 0} (t : Typed A) : Type 0 where
   pub names : (state t).names ≡ s.names
@@ -129,6 +132,12 @@ pub first_kept : {n : _} (row : Row_of-Link n) (x : Expr) (s : Typer) → Keeps 
 first_kept end_of-Link x s = kept
 first_kept (more_of-Link op q y rest) x s = still (beside_quiet op x s)
 
+constant_kept : (p : Pos) (w : Value) (s : Typer) → Keeps s (constant p w s)
+constant_kept p v.Varies s = kept_refused 18 p
+constant_kept p v.Errs s = kept_refused 18 p
+constant_kept p v.Unknown s = kept
+constant_kept p (v.Is c) s = kept
+
 dimension_by_kept : (p : Pos) (o : Option ℤ) (s : Typer) → Keeps s (def.dimension_by p o s)
 dimension_by_kept p None s = kept
 dimension_by_kept p (Some z) s = by_size (def.is_dimension z) where
@@ -138,7 +147,7 @@ dimension_by_kept p (Some z) s = by_size (def.is_dimension z) where
 
 dimension_kept : (p : Pos) (x : Operand) (s : Typer) → Keeps s (def.dimension p x s)
 unfolding def.dimension
-dimension_kept p x s = kept_then (still (no_object_quiet x s)) (λ a t. kept_then (still (constant_quiet p (known_value x) t)) (λ o u. dimension_by_kept p o u))
+dimension_kept p x s = kept_then (still (no_object_quiet x s)) (λ a t. kept_then (constant_kept p (known_value x) t) (λ o u. dimension_by_kept p o u))
 
 mutual
   unfolding expr

@@ -35,12 +35,6 @@ quiet_if true m n a b = a
 quiet_if false m n a b = b
 
 -- ---- constants
-pub constant_quiet : (p : Pos) (x : Value) (s : Typer) → Quiet s (constant p x s)
-constant_quiet p v.Varies s = quiet_refuses 18 p refl
-constant_quiet p v.Errs s = quiet_refuses 18 p refl
-constant_quiet p v.Unknown s = quiet_gives
-constant_quiet p (v.Is c) s = quiet_gives
-
 pub no_object_quiet : (x : Operand) (s : Typer) → Quiet s (no_object x s)
 no_object_quiet (a.Number e num x) s = quiet_gives
 no_object_quiet (a.Struct x k fixed p) s = quiet_refuses 5 p refl

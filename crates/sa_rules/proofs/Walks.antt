@@ -21,11 +21,11 @@ use Rattle.sa_typer.specs.Typing.{Typed, Typing, Gives, and_then, each, refused,
 use Rattle.sa_rules.specs.Events.{Event}
 use Rattle.sa_rules.specs.Sight as sight
 use Rattle.sa_rules.specs.Sight.{Kind, Open, Sight, see}
-use Rattle.sa_rules.specs.Rules.{oversized, undeclared, declared_twice, no_type, misqualified, astray, place_of, refused_by}
+use Rattle.sa_rules.specs.Rules.{no_constant, oversized, undeclared, declared_twice, no_type, misqualified, astray, place_of, refused_by}
 
 -- ---- what is noted: refusals with these codes
 abbrev pub is_noted : ℕ → Bool
-is_noted k = k == 19 || k == 1 || k == 2 || k == 3 || k == 21 || k == 22 || k == 23
+is_noted k = k == 18 || k == 19 || k == 1 || k == 2 || k == 3 || k == 21 || k == 22 || k == 23
 
 abbrev pub is_noted_fault : Fault → Bool
 is_noted_fault f = is_noted f.rule
@@ -40,7 +40,8 @@ faults_at code (Some p) = fault code p ∷ []
 -- what an event is refused for
 abbrev pub broken : Sight → Event → List Fault
 broken m e =
-    faults_at 19 (oversized m e) ++ (faults_at 1 (undeclared m e) ++ (faults_at 2 (declared_twice m e) ++ (faults_at 3 (no_type m e) ++ (faults_at 21 (misqualified m e) ++ faults_at 23 (astray m e)))))
+    faults_at 18 (no_constant m e)
+    ++ (faults_at 19 (oversized m e) ++ (faults_at 1 (undeclared m e) ++ (faults_at 2 (declared_twice m e) ++ (faults_at 3 (no_type m e) ++ (faults_at 21 (misqualified m e) ++ faults_at 23 (astray m e))))))
 
 pub record Noted : Type 0 where
   pub sight : Sight

@@ -42,8 +42,9 @@ pub data Event : Type 0 where
   Declares : Name → Event
   Aliases : Name → Event
   Member : Name → Event
-  -- an expression is a dimension
+  -- an expression is a dimension, or an initial value that has to be known
   Dimension : Expr → Event
+  Initial : Expr → Event
   -- a block begins and ends
   Begins : Event
   Ends : Event

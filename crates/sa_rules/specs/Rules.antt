@@ -5,7 +5,7 @@ use Rattle.std.specs.List.{Contains, filter_map}
 use Rattle.sa_base.specs.declared.pos.Pos.{Pos}
 use Rattle.sa_syntax.specs.declared.unit.Unit.{Unit as Source}
 use Rattle.sa_typer.specs.declared.constant.Value.{Value}
-use Rattle.sa_typer.specs.declared.constant.Value.TheVariants.{Is}
+use Rattle.sa_typer.specs.declared.constant.Value.TheVariants.{Varies, Errs, Is}
 use Rattle.sa_typer.specs.declared.typer.Fault.{Fault}
 use Rattle.sa_typer.specs.Definitions.{is_dimension}
 use Rattle.sa_typer.specs.First.{expr_pos}
@@ -13,7 +13,7 @@ use Rattle.sa_typer.specs.Scopes.{is_visible, is_some, meaning_of}
 use Rattle.sa_typer.specs.Types.{num_of}
 use Rattle.sa_typer.specs.Typing.{fault}
 use Rattle.sa_typer.specs.Units.{refusals}
-use Rattle.sa_rules.specs.Events.{Event, Misplaced, Volatile_before_bare, Words, Void, Tag, Named, Opens, Closes, Object, Uses, Declares, Aliases, Member, Dimension, Begins, Ends, Stray, Main}
+use Rattle.sa_rules.specs.Events.{Event, Misplaced, Volatile_before_bare, Words, Void, Tag, Named, Opens, Closes, Object, Uses, Declares, Aliases, Member, Dimension, Initial, Begins, Ends, Stray, Main}
 use Rattle.sa_rules.specs.Sight.{Sight, nothing_seen, see, after, is_taken, is_complete, is_nothing, is_structure}
 use Rattle.sa_rules.specs.Texts.{text}
 use Rattle.sa_rules.specs.Values.{value_of}
@@ -49,6 +49,17 @@ no_type m (Words p ws) = at_unless (is_some (num_of ws)) p
 no_type m (Tag p x) = at_unless (is_complete (meaning_of m.tags x.text)) p
 no_type m (Object p) = at_if (is_nothing m.last) p
 no_type m _ = None
+
+-- 18: a dimension, or an initial value of the file scope or within braces, is no constant expression or errs
+abbrev pub unless_known : Pos → Value → Option Pos
+unless_known p Varies = Some p
+unless_known p Errs = Some p
+unless_known p _ = None
+
+abbrev pub no_constant : Rule
+no_constant m (Dimension x) = unless_known (expr_pos x) (value_of m.names x)
+no_constant m (Initial x) = unless_known (expr_pos x) (value_of m.names x)
+no_constant m _ = None
 
 -- 19: a dimension is a constant expression, but its value is below 1 or above 16,777,216
 abbrev pub out_of_range : Pos → Value → Option Pos

@@ -6,7 +6,7 @@ use Rattle.sa_syntax.specs.declared.decl.Name.{Name}
 use Rattle.sa_typer.specs.Scopes.{Scope, nothing, meaning_of, is_visible, index_from, is_some, with_name, with_meaning, oldest, count}
 use Rattle.sa_typer.specs.Types.{num_of}
 use Rattle.sa_typer.specs.Units.{is_result}
-use Rattle.sa_rules.specs.Events.{Event, Misplaced, Volatile_before_bare, Words, Void, Tag, Named, Opens, Closes, Object, Uses, Declares, Aliases, Member, Dimension, Begins, Ends, Stray, Main}
+use Rattle.sa_rules.specs.Events.{Event, Misplaced, Volatile_before_bare, Words, Void, Tag, Named, Opens, Closes, Object, Uses, Declares, Aliases, Member, Dimension, Initial, Begins, Ends, Stray, Main}
 
 -- what a type is apart from its qualifiers; it is none where its words were refused
 pub data Kind : Type 0 where
@@ -130,6 +130,7 @@ see m Closes = closed m.opened m
 see m (Object p) = unknown_if (is_nothing m.last) m
 see m (Uses x) = m
 see m (Dimension x) = m
+see m (Initial x) = m
 see m (Declares x) = declared_unless (is_visible m.names x.text) x.text None m
 see m (Aliases x) = declared_unless (is_visible m.names x.text) x.text (Some m.last) m
 see m (Member x) = field_unless (is_taken m x.text) x.text m

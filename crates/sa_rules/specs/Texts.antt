@@ -35,13 +35,13 @@ use Rattle.sa_typer.specs.Bodies.{clock_loop}
 use Rattle.sa_typer.specs.Declarations.{are_bare}
 use Rattle.sa_typer.specs.First.{item_pos}
 use Rattle.sa_typer.specs.Scopes.{is_visible, is_some}
-use Rattle.sa_rules.specs.Events.{Event, Misplaced, Volatile_before_bare, Object, Uses, Declares, Aliases, Begins, Ends, Stray, Main, is_volatile, misplaced, name_in, in_expr, in_step, in_base, in_struct, in_bound}
+use Rattle.sa_rules.specs.Events.{Event, Misplaced, Volatile_before_bare, Initial, Object, Uses, Declares, Aliases, Begins, Ends, Stray, Main, is_volatile, misplaced, name_in, in_expr, in_step, in_base, in_struct, in_bound}
 use Rattle.sa_rules.specs.Sight.{Sight, nothing_seen, after}
 
 -- ---- initialisers
 unfoldable mutual
   pub in_init : Init → List Event
-  in_init (init.Value e) = in_expr e
+  in_init (init.Value e) = in_expr e ++ Initial e ∷ []
   in_init (init.Braces' p n row) = in_inits row
 
   pub in_inits : {n : _} → Row_of-Init n → List Event
@@ -77,9 +77,14 @@ qualifiers_at_file_scope bare (q ∷ qs) = at_file_scope bare q.pos q.word ++ qu
 unfoldable pub in_globals : Specifiers → List InitDeclr → List Event
 in_globals ty ds = in_object ty ++ (qualifiers_at_file_scope (are_bare ds) (out-Specifiers ty).qualifiers ++ flat_map in_global ds)
 
+-- an expression that a local begins with is any
+unfoldable pub in_local_init : Init → List Event
+in_local_init (init.Value e) = in_expr e
+in_local_init (init.Braces' p n row) = in_inits row
+
 abbrev pub in_local_start : LocalStart → List Event
 in_local_start begins.Nothing = []
-in_local_start (begins.Init p i) = in_init i
+in_local_start (begins.Init p i) = in_local_init i
 in_local_start (begins.Call p c) = []
 
 unfoldable pub in_local_declr : LocalDeclr → List Event

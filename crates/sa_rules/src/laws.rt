@@ -1,6 +1,6 @@
 //! Laws of refusals.
 
-ghost use Rattle.sa_rules.specs.Rules.{IsRule, IsExact, IsMissingMain, undeclared, declared_twice, no_type, oversized, misqualified, astray};
+ghost use Rattle.sa_rules.specs.Rules.{IsRule, IsExact, IsMissingMain, undeclared, declared_twice, no_constant, no_type, oversized, misqualified, astray};
 ghost use Rattle.sa_rules.specs.Sites.{StandAtSites};
 
 /// Refusals with code 1 stand exactly at the names of variables that aren't visible there.
@@ -21,6 +21,13 @@ pub fn names_are_declared_once()
 pub fn types_are_types()
     ensures listed { IsRule 3 no_type }
     ensures exact { IsExact 3 no_type }
+{}
+
+/// Refusals with code 18 stand exactly at the first tokens of dimensions, and of initial values of the file scope and within
+/// braces, that are no constant expressions or err.
+pub fn constants_are_constant()
+    ensures listed { IsRule 18 no_constant }
+    ensures exact { IsExact 18 no_constant }
 {}
 
 /// Refusals with code 19 stand exactly at the first tokens of dimensions that are constant expressions with a value below 1 or

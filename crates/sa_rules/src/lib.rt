@@ -9,7 +9,7 @@
 mod laws;
 
 pub use laws::{
-    dimensions_are_in_range, names_are_declared, names_are_declared_once,
+    constants_are_constant, dimensions_are_in_range, names_are_declared, names_are_declared_once,
     other_refusals_stand_at_their_sites, qualifiers_stand_in_place, there_is_a_main,
     types_are_types, waits_stand_in_place,
 };
