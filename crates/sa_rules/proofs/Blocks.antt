@@ -1,7 +1,6 @@
 -- Statements, blocks and main see and refuse what their events do.
-use Rattle.std.proofs.Common.{◌≡◌, ℕ, Bool, true, false, ◌||◌, List, [], ◌∷◌, ◌++◌, refl, sym, ap, subst, ◌∙◌, Option, Some, None}
+use Rattle.std.proofs.Common.{◌≡◌, ℕ, Bool, true, false, ◌||◌, List, [], ◌∷◌, ◌++◌, refl, ap, subst, ◌∙◌, Option, Some, None}
 use Rattle.std.specs.List.{flat_map}
-use Rattle.std.specs.Prelude.{if◌then◌else◌}
 use Rattle.sa_base.specs.declared.num.Num.{Num}
 use Rattle.sa_base.specs.declared.pos.Pos.{Pos}
 use Rattle.sa_syntax.specs.declared.expr.Place.{Place}
@@ -32,12 +31,12 @@ use Rattle.sa_typer.specs.First.{place_pos, item_pos}
 use Rattle.sa_typer.specs.Operands.{is_object}
 use Rattle.sa_typer.specs.Places.{access, form_at}
 use Rattle.sa_typer.specs.Scopes.{Scope, is_some, oldest, count}
-use Rattle.sa_typer.specs.Statements.{mismatched, to_number, to_struct, to_form, assigned, compound_of, turn_of, one as just_one, sort_by, compounded_number, compounded_by, compounded, left_side, simple, left_scope, scoped, directive, stmt, items, item}
-use Rattle.sa_typer.specs.Typing.{Typed, Typing, Gives, and_then, pure, each, refused, refuse_if, fault}
-use Rattle.sa_rules.specs.Events.{Event, Begins, Ends, Stray, in_expr}
-use Rattle.sa_rules.specs.Sight.{Kind, Open, Block, Sight, see, left}
+use Rattle.sa_typer.specs.Statements.{to_number, to_struct, to_form, assigned, compound_of, turn_of, one as just_one, sort_by, compounded_number, compounded_by, compounded, left_side, simple, left_scope, scoped, directive, stmt, items, item}
+use Rattle.sa_typer.specs.Typing.{Typed, Typing, Gives, and_then, each, refuse_if, fault}
+use Rattle.sa_rules.specs.Events.{Event, Begins, Ends}
+use Rattle.sa_rules.specs.Sight.{Kind, Open, Block, see, left}
 use Rattle.sa_rules.specs.Texts.{in_place, in_simple, in_directive, in_stmt, in_items, in_item, in_loop_or_item, stray_if, in_main, has_loop}
-use Rattle.sa_rules.proofs.Walks.{name_kind, is_struct_tag, seen_as, state, value, Reads, Quiet, quiet_gives, quiet_refuses, quiet_then, quiet_unless, quiet, stays, bind, then_here, ends, so, from, all_parts, refused_clear, refused_noted}
+use Rattle.sa_rules.proofs.Walks.{name_kind, is_struct_tag, seen_as, state, value, Reads, Quiet, quiet_gives, quiet_refuses, quiet_then, quiet_unless, quiet, bind, then_here, ends, from, all_parts, refused_clear, refused_noted}
 use Rattle.sa_rules.proofs.Steps.{At, one, one_as, refused_one, nothing_added}
 use Rattle.sa_rules.proofs.Names.{oldest_seen}
 use Rattle.sa_rules.proofs.Trees.{expr_reads, spot_reads}

@@ -1,5 +1,5 @@
 -- The value that typing knows of an expression is the one that it has by the visible names.
-use Rattle.std.proofs.Common.{◌≡◌, ℕ, Bool, true, false, List, [], ◌∷◌, ◌++◌, length, refl, sym, ap, subst, ◌∙◌, Option, Some, None}
+use Rattle.std.proofs.Common.{◌≡◌, ℕ, Bool, true, false, List, refl, sym, ap, subst, ◌∙◌, Option, Some, None}
 use Rattle.std.specs.Prelude.{option_map}
 use Rattle.sa_base.specs.declared.num.Num.{Num}
 use Rattle.sa_base.specs.declared.pos.Pos.{Pos}
@@ -31,15 +31,14 @@ use Rattle.sa_typer.specs.declared.types.Named as named
 use Rattle.sa_typer.specs.declared.types.Named.TheVariants as n
 use Rattle.sa_typer.specs.declared.types.Tagged.{Tagged}
 use Rattle.sa_typer.specs.declared.types.Tagged.TheVariants as t
-use Rattle.sa_typer.specs.declared.types.Ty.{Ty}
 use Rattle.sa_typer.specs.Definitions as def
 use Rattle.sa_typer.specs.Definitions.{no_fields}
-use Rattle.sa_typer.specs.Expressions.{expr, links, base_type, structure, fields, beside_first}
-use Rattle.sa_typer.specs.Operands.{known_value, literal, sort_of, prefix_of, prefixed, cast, cast_to, miscast, operator_of, left_of, some_left, linked, linked_by, chained}
+use Rattle.sa_typer.specs.Expressions.{expr, links, base_type, structure}
+use Rattle.sa_typer.specs.Operands.{known_value, literal, prefix_of, prefixed, cast, cast_to, miscast, operator_of, left_of, some_left, linked, linked_by, chained}
 use Rattle.sa_typer.specs.Places as place
 use Rattle.sa_typer.specs.Scopes.{Scope, meaning_of}
-use Rattle.sa_typer.specs.Types.{num_of, scalar, defined, tagged, type_name, alias, not_void, object, whole, qualified, qualifiers}
-use Rattle.sa_typer.specs.Typing.{Typed, Typing, Gives, and_then, pure}
+use Rattle.sa_typer.specs.Types.{num_of, scalar, defined, tagged, type_name, alias, not_void, object}
+use Rattle.sa_typer.specs.Typing.{Typed, Typing, Gives, and_then}
 use Rattle.sa_typer.specs.Values.{literal_value, prefix_value, operator_value}
 use Rattle.sa_rules.specs.Sight.{Kind, alias_kind}
 use Rattle.sa_rules.specs.Values.{number_kind, cast_type, cast_as, linked_value, value_of, chain_value}

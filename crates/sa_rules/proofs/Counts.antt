@@ -1,23 +1,22 @@
 -- The refusals with a code are those that its rule finds in the events.
-use Rattle.std.proofs.Common.{◌≡◌, ℕ, Bool, true, false, ◌||◌, List, [], ◌∷◌, ◌++◌, refl, sym, ap, subst, ◌∙◌, Option, Some, None, append_assoc}
+use Rattle.std.proofs.Common.{◌≡◌, ℕ, Bool, true, false, ◌||◌, List, [], ◌∷◌, ◌++◌, refl, sym, ap, ◌∙◌, Option, Some, None, append_assoc}
 use Rattle.std.proofs.lemmas.List.{append-nil}
 use Rattle.std.proofs.lemmas.List.Elements.{filter_map-append}
-use Rattle.std.specs.List.{filter, filter_map, cons_option}
+use Rattle.std.specs.List.{cons_option}
 use Rattle.std.specs.Prelude.{if◌then◌else◌, ◌==◌}
 use Rattle.sa_base.specs.declared.pos.Pos.{Pos}
 use Rattle.sa_syntax.specs.declared.unit.Unit.{Unit as Source}
 use Rattle.sa_typer.specs.declared.bodies.Entry.{Entry}
 use Rattle.sa_typer.specs.declared.typer.Fault.{Fault}
-use Rattle.sa_typer.specs.declared.typer.Typer.{Typer}
 use Rattle.sa_typer.specs.Typing.{Typed, Gives, fault}
 use Rattle.sa_typer.specs.Units as unit
 use Rattle.sa_typer.specs.Units.{has_entry, all_items, refusals}
 use Rattle.sa_rules.specs.Events.{Event}
-use Rattle.sa_rules.specs.Rules.{Rule, no_constant, oversized, undeclared, declared_twice, no_type, misqualified, astray, with_place, places, at_if, place_of, refused_by, HasNoBadInitialiser, IsRule, no_main, IsMissingMain}
+use Rattle.sa_rules.specs.Rules.{Rule, no_constant, oversized, undeclared, declared_twice, no_type, misqualified, astray, with_place, places, at_if, place_of, refused_by, HasNoBadInitialiser, IsRule, IsMissingMain}
 use Rattle.sa_rules.specs.Sight.{Sight, nothing_seen, see, after}
 use Rattle.sa_rules.specs.Texts.{text}
-use Rattle.sa_rules.proofs.Walks.{is_noted, is_noted_fault, noted, faults_at, broken, Noted, note, noting, state, value}
-use Rattle.sa_rules.proofs.Sources.{nothing_noted, Whole, whole}
+use Rattle.sa_rules.proofs.Walks.{is_noted, noted, faults_at, broken, Noted, note, noting, state, value}
+use Rattle.sa_rules.proofs.Sources.{nothing_noted, whole}
 
 abbrev listed : Option Pos → List Pos
 listed None = []

@@ -1,8 +1,7 @@
 -- Initialisers and declarations see and refuse what their events do.
-use Rattle.std.proofs.Common.{◌≡◌, ℕ, ◌+◌, Bool, true, false, not, ◌&&◌, List, [], ◌∷◌, ◌++◌, length, refl, sym, ap, subst, ◌∙◌, Option, Some, None}
+use Rattle.std.proofs.Common.{◌≡◌, ℕ, ◌+◌, Bool, true, false, not, ◌&&◌, List, [], ◌∷◌, ◌++◌, refl, sym, ap, subst, ◌∙◌, Option, Some, None}
 use Rattle.std.proofs.lemmas.List.Elements.{filter_map-append}
-use Rattle.std.specs.List.{flat_map}
-use Rattle.std.specs.Prelude.{ℤ, if◌then◌else◌}
+use Rattle.std.specs.Prelude.{ℤ}
 use Rattle.sa_base.specs.declared.num.Num.{Num}
 use Rattle.sa_base.specs.declared.pos.Pos.{Pos}
 use Rattle.sa_syntax.specs.declared.decl.Declr.{out-Declr}
@@ -25,31 +24,29 @@ use Rattle.sa_typed.specs.Arithmetic.{is_of}
 use Rattle.sa_typed.specs.declared.program.Home.TheVariants as home
 use Rattle.sa_typed.specs.declared.shape.Shape.{Shape}
 use Rattle.sa_typed.specs.declared.stmt.Stmt.{Stmt}
-use Rattle.sa_typer.specs.declared.bodies.Beginning.{Beginning}
 use Rattle.sa_typer.specs.declared.form.Form.{Form}
 use Rattle.sa_typer.specs.declared.form.Form.TheVariants as form
 use Rattle.sa_typer.specs.declared.operand.Operand.{Operand}
-use Rattle.sa_typer.specs.declared.typer.Fault.{Fault}
 use Rattle.sa_typer.specs.declared.typer.Typer.{Typer}
 use Rattle.sa_typer.specs.declared.types.Element.{Element}
 use Rattle.sa_typer.specs.declared.types.Element.TheVariants as el
 use Rattle.sa_typer.specs.declared.types.Ty.{Ty}
-use Rattle.sa_typer.specs.Declarations.{initial, global_by, global, next_global, declared, input_type, input_by, are_bare, is_struct, begun_with, begun_by, begun, local_as, local_of, next_local, locals, local}
+use Rattle.sa_typer.specs.Declarations.{initial, global_by, global, next_global, declared, input_type, input_by, are_bare, is_struct, begun_with, begun_by, begun, local_of, next_local, local}
 use Rattle.sa_typer.specs.Expressions.{expr}
 use Rattle.sa_typer.specs.First.{expr_pos, init_pos}
 use Rattle.sa_typer.specs.Forms.{form_of}
-use Rattle.sa_typer.specs.Initialisers.{item, within, valued, slotted, init, braced, values, zeros}
+use Rattle.sa_typer.specs.Initialisers.{item, within, valued, slotted, init, braced, values}
 use Rattle.sa_typer.specs.Operands.{sort_of, is_object, known_value, no_object}
 use Rattle.sa_typer.specs.Structures.{slot}
 use Rattle.sa_typer.specs.Types.{qualifier, qualifiers, is_misplaced, has_volatile, shape_of}
 use Rattle.sa_typer.specs.Values.{constant}
-use Rattle.sa_typer.specs.Typing.{Typed, Typing, Gives, and_then, pure, each, refused, refuse_if, fault}
-use Rattle.sa_rules.specs.Events.{Event, Misplaced, Volatile_before_bare, Initial, Declares, in_bound}
+use Rattle.sa_typer.specs.Typing.{Typing, Gives, and_then, each, refused, refuse_if, fault}
+use Rattle.sa_rules.specs.Events.{Event, Misplaced, Volatile_before_bare, Initial, Declares}
 use Rattle.sa_rules.specs.Rules.{place_of, refused_by, at_if}
-use Rattle.sa_rules.specs.Sight.{Kind, Open, Sight, see, is_structure}
+use Rattle.sa_rules.specs.Sight.{Kind, Open, see, is_structure}
 use Rattle.sa_rules.specs.Values.{value_of}
-use Rattle.sa_rules.specs.Texts.{in_init, in_inits, in_local_init, in_start, in_global, at_file_scope, qualifiers_at_file_scope, in_globals, in_object, in_local_start, in_local_declr, in_local}
-use Rattle.sa_rules.proofs.Walks.{faults_at, kind_of, name_kind, seen_as, state, value, then_here, Clear, Reads, Quiet, quiet_gives, quiet_refuses, quiet_then, quiet_unless, quiet, bind, ends, so, from, all_parts, refused_clear, refused_noted}
+use Rattle.sa_rules.specs.Texts.{in_init, in_inits, in_local_init, in_start, in_global, at_file_scope, qualifiers_at_file_scope, in_globals, in_local_start, in_local_declr, in_local}
+use Rattle.sa_rules.proofs.Walks.{faults_at, name_kind, seen_as, state, value, then_here, Clear, Reads, Quiet, quiet_gives, quiet_refuses, quiet_then, quiet_unless, quiet, bind, ends, so, all_parts, refused_clear, refused_noted}
 use Rattle.sa_rules.proofs.Steps.{At, Last, forget, one, one_as, refused_one, nothing_added}
 use Rattle.sa_rules.proofs.Names.{variable_reads, input_reads}
 use Rattle.sa_rules.proofs.Qualifiers.{plain_qualifiers}

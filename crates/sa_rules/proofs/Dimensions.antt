@@ -1,7 +1,6 @@
 -- Dimensions, and initial values that have to be known.
-use Rattle.std.proofs.Common.{◌≡◌, ℕ, Bool, true, false, List, [], ◌∷◌, ◌++◌, refl, sym, ap, subst, ◌∙◌, Option, Some, None}
-use Rattle.std.specs.Prelude.{ℤ, unsigned_abs, if◌then◌else◌}
-use Rattle.sa_base.specs.declared.pos.Pos.{Pos}
+use Rattle.std.proofs.Common.{◌≡◌, ℕ, Bool, true, false, List, [], ◌∷◌, ◌++◌, refl, sym, ap, ◌∙◌, Option}
+use Rattle.std.specs.Prelude.{unsigned_abs, if◌then◌else◌}
 use Rattle.sa_syntax.specs.declared.expr.Expr.{Expr}
 use Rattle.sa_typer.specs.declared.constant.Value.{Value}
 use Rattle.sa_typer.specs.declared.constant.Value.TheVariants as v
@@ -14,9 +13,9 @@ use Rattle.sa_typer.specs.Expressions.{expr}
 use Rattle.sa_typer.specs.First.{expr_pos}
 use Rattle.sa_typer.specs.Operands.{known_value, no_object}
 use Rattle.sa_typer.specs.Scopes.{Scope}
-use Rattle.sa_typer.specs.Typing.{Typed, Typing, Gives, and_then, pure, refuse, refused, fault, ◌>>◌}
+use Rattle.sa_typer.specs.Typing.{and_then, pure, refuse, fault, ◌>>◌}
 use Rattle.sa_typer.specs.Values.{constant}
-use Rattle.sa_rules.specs.Events.{Event, Dimension, Initial}
+use Rattle.sa_rules.specs.Events.{Dimension, Initial}
 use Rattle.sa_rules.specs.Rules.{at_unless, unless_known, out_of_range}
 use Rattle.sa_rules.specs.Sight.{Kind, Open, Sight, see}
 use Rattle.sa_rules.specs.Values.{value_of}

@@ -1,5 +1,5 @@
 -- An expression and a type declare no names.
-use Rattle.std.proofs.Common.{◌≡◌, ℕ, Bool, true, false, List, [], ◌∷◌, ◌++◌, refl, sym, ap, subst, ◌∙◌, Option, Some, None}
+use Rattle.std.proofs.Common.{◌≡◌, ℕ, Bool, true, false, List, [], ◌∷◌, refl, ◌∙◌, Option, Some, None}
 use Rattle.std.specs.Prelude.{ℤ, unsigned_abs, if◌then◌else◌}
 use Rattle.sa_base.specs.declared.num.Num.{Num}
 use Rattle.sa_base.specs.declared.pos.Pos.{Pos}
@@ -34,10 +34,10 @@ use Rattle.sa_typer.specs.First.{expr_pos}
 use Rattle.sa_typer.specs.Operands.{prefix_of, left_of, known_value}
 use Rattle.sa_typer.specs.Places.{root_by, pointed_by, begins}
 use Rattle.sa_typer.specs.Scopes.{meaning_of, is_visible, with_name, count}
-use Rattle.sa_typer.specs.Types.{num_of, qualifier, qualifiers, is_misplaced, scalar, defined, tagged, type_name, not_void, object, whole}
+use Rattle.sa_typer.specs.Types.{num_of, qualifier, qualifiers, is_misplaced, scalar, defined, tagged, type_name, not_void, object}
 use Rattle.sa_typer.specs.Typing.{Typed, Typing, Gives, and_then, each, pure, refuse, refused, refuse_if, ◌>>◌}
 use Rattle.sa_typer.specs.Values.{constant}
-use Rattle.sa_rules.proofs.Walks.{state, Quiet, quiet_gives}
+use Rattle.sa_rules.proofs.Walks.{state, Quiet}
 use Rattle.sa_rules.proofs.QuietParts.{no_object_quiet, beside_quiet, prefixed_quiet, cast_quiet, linked_quiet, index_quiet, field_quiet, arrow_quiet}
 
 pub record Keeps (s : Typer) {A : Type 0} (t : Typed A) : Type 0 where

@@ -1,36 +1,30 @@
 -- Steps of typing that declare: tags, fields and names.
-use Rattle.std.proofs.Common.{◌≡◌, ℕ, Bool, true, false, List, [], ◌∷◌, ◌++◌, length, take, refl, sym, ap, subst, ◌∙◌, arith, Option, Some, None}
-use Rattle.std.proofs.lemmas.List.{append-nil, map-append, take-map, map-set}
-use Rattle.std.specs.Prelude.{ℤ, if◌then◌else◌, ◌||◌, map, set, option_map}
+use Rattle.std.proofs.Common.{◌≡◌, ℕ, Bool, true, false, List, [], ◌∷◌, ◌++◌, length, take, refl, sym, ap, ◌∙◌, Option, Some, None}
+use Rattle.std.proofs.lemmas.List.{map-append, take-map, map-set}
+use Rattle.std.specs.Prelude.{ℤ, if◌then◌else◌, ◌||◌, option_map}
 use Rattle.sa_base.specs.declared.num.Num.{Num}
-use Rattle.sa_base.specs.declared.pos.Pos.{Pos}
 use Rattle.sa_syntax.specs.declared.decl.Name.{Name}
 use Rattle.sa_typed.specs.declared.program.Home.{Home}
-use Rattle.sa_typed.specs.declared.program.Var.{Var}
 use Rattle.sa_typed.specs.declared.shape.Shape.{Shape}
 use Rattle.sa_typer.specs.declared.structs.Fields.{Fields}
-use Rattle.sa_typer.specs.declared.typer.Fault.{Fault}
 use Rattle.sa_typer.specs.declared.typer.Typer.{Typer}
-use Rattle.sa_typer.specs.declared.types.Element.TheVariants as el
 use Rattle.sa_typer.specs.declared.types.Named as meant
 use Rattle.sa_typer.specs.declared.types.Named.TheVariants as n
 use Rattle.sa_typer.specs.declared.types.Tagged.{Tagged}
 use Rattle.sa_typer.specs.declared.types.Tagged.TheVariants as t
 use Rattle.sa_typer.specs.declared.types.Ty.{Ty}
-use Rattle.sa_typer.specs.Declarations as decl
-use Rattle.sa_typer.specs.Declarations.{named, variable, input, var, added, added_input}
+use Rattle.sa_typer.specs.Declarations.{named, variable, input}
 use Rattle.sa_typer.specs.Definitions as def
 use Rattle.sa_typer.specs.Definitions.{opened, is_alias, with_tag, name_or_empty}
 use Rattle.sa_typer.specs.Scopes.{Scope, index_from, meaning_of, is_some, is_visible, with_name, with_meaning, oldest, count}
-use Rattle.sa_typer.specs.Structures.{with_struct}
-use Rattle.sa_typer.specs.Types.{plain, shape_of}
-use Rattle.sa_typer.specs.Typing.{Typed, Typing, Gives, and_then, pure, refused, fault}
-use Rattle.sa_rules.specs.Events.{Event, Opens, Closes, Declares, Aliases, Member}
+use Rattle.sa_typer.specs.Types.{shape_of}
+use Rattle.sa_typer.specs.Typing.{Gives, refused, fault}
+use Rattle.sa_rules.specs.Events.{Opens, Closes, Declares, Aliases, Member}
 use Rattle.sa_rules.specs.Rules.{at_if}
 use Rattle.sa_rules.specs.Sight as sight
 use Rattle.sa_rules.specs.Sight.{Kind, Open, Braces, Sight, see, is_type_name, is_taken, fields_so_far, with_field, opened_unless, declared_unless, field_unless, closed, completed}
-use Rattle.sa_rules.proofs.Walks.{noted, broken, faults_at, kind_of, name_kind, is_struct_tag, seen_as, Clear, state, value, Reads, Quiet, quiet_gives, refused_clear, refused_noted, quiet, bind, ends, so, from}
-use Rattle.sa_rules.proofs.Steps.{At, Last, One, one, one_as, refused_one, nothing_added, same_meaning}
+use Rattle.sa_rules.proofs.Walks.{faults_at, name_kind, is_struct_tag, seen_as, Reads, quiet_gives, refused_clear, refused_noted, ends}
+use Rattle.sa_rules.proofs.Steps.{At, Last, one, one_as, refused_one, nothing_added, same_meaning}
 
 -- a scope with another name
 pub with_name_seen : {M N : Type 0} (f : M → N) (s : Scope M) (w : List ℕ) (x : M) → with_name (seen_as f s) w (f x) ≡ seen_as f (with_name s w x)

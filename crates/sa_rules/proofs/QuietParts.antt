@@ -1,6 +1,6 @@
 -- Helpers of typing that do nothing with names and tags, and refuse with other codes only.
-use Rattle.std.proofs.Common.{◌≡◌, ℕ, Bool, true, false, List, [], ◌∷◌, ◌++◌, refl, sym, ap, subst, ◌∙◌, Option, Some, None}
-use Rattle.std.specs.Prelude.{ℤ, if◌then◌else◌}
+use Rattle.std.proofs.Common.{◌≡◌, ℕ, Bool, true, false, refl, Option, Some, None}
+use Rattle.std.specs.Prelude.{if◌then◌else◌}
 use Rattle.sa_base.specs.declared.num.Num.{Num}
 use Rattle.sa_base.specs.declared.pos.Pos.{Pos}
 use Rattle.sa_syntax.specs.declared.decl.Name.{Name}
@@ -9,7 +9,6 @@ use Rattle.sa_syntax.specs.declared.expr.Operator as from
 use Rattle.sa_typed.specs.declared.expr.Expr.{Expr}
 use Rattle.sa_typed.specs.declared.expr.Prefix.{Prefix}
 use Rattle.sa_typer.specs.declared.constant.Value.{Value}
-use Rattle.sa_typer.specs.declared.constant.Value.TheVariants as v
 use Rattle.sa_typer.specs.declared.form.Form.{Form}
 use Rattle.sa_typer.specs.declared.form.Form.TheVariants as form
 use Rattle.sa_typer.specs.declared.operand.Left.{Left}
@@ -22,13 +21,11 @@ use Rattle.sa_typer.specs.declared.structs.Member.{Member}
 use Rattle.sa_typer.specs.declared.typer.Typer.{Typer}
 use Rattle.sa_typer.specs.declared.types.Element.{Element}
 use Rattle.sa_typer.specs.declared.types.Element.TheVariants as el
-use Rattle.sa_typer.specs.Definitions.{is_dimension, dimension_by, dimension}
-use Rattle.sa_typer.specs.Operands.{no_object, with_threshold, beside, is_comparison, by_itself, prefixed, no_number, cast, cast_to, miscast, linked, sort_of, is_object, known_value, expr_or}
+use Rattle.sa_typer.specs.Operands.{no_object, with_threshold, beside, is_comparison, by_itself, prefixed, no_number, cast, cast_to, miscast, linked, sort_of, is_object, expr_or}
 use Rattle.sa_typer.specs.Places.{index, element_of, field, field_of, to_member, arrow, is_known, form_at, indexed_with}
 use Rattle.sa_typer.specs.Structures.{member_of}
-use Rattle.sa_typer.specs.Values.{constant}
-use Rattle.sa_typer.specs.Typing.{Typed, Typing, Gives, and_then, pure, refuse}
-use Rattle.sa_rules.proofs.Walks.{is_noted, Quiet, quiet_gives, quiet_refuses, quiet_then, quiet_unless}
+use Rattle.sa_typer.specs.Typing.{Typing}
+use Rattle.sa_rules.proofs.Walks.{Quiet, quiet_gives, quiet_refuses, quiet_then, quiet_unless}
 
 pub quiet_if : {A : Type 0} {s : Typer} (b : Bool) (m n : Typing A) → Quiet s (m s) → Quiet s (n s) → Quiet s ((if b then m else n) s)
 quiet_if true m n a b = a

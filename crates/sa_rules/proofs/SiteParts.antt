@@ -1,6 +1,6 @@
 -- What the helpers of typing may refuse.
-use Rattle.std.proofs.Common.{◌≡◌, ℕ, Bool, true, false, List, [], ◌∷◌, ◌++◌, refl, sym, ap, subst, ◌∙◌, ◌⊎◌, inl, inr, Option, Some, None}
-use Rattle.std.specs.Prelude.{ℤ, if◌then◌else◌}
+use Rattle.std.proofs.Common.{◌≡◌, ℕ, Bool, true, false, List, [], ◌∷◌, refl, inl, Option, Some, None}
+use Rattle.std.specs.Prelude.{ℤ}
 use Rattle.sa_base.specs.declared.num.Num.{Num}
 use Rattle.sa_base.specs.declared.pos.Pos.{Pos}
 use Rattle.sa_syntax.specs.declared.decl.Name.{Name}
@@ -27,7 +27,7 @@ use Rattle.sa_typer.specs.Operands.{no_object, with_threshold, beside, is_compar
 use Rattle.sa_typer.specs.Places.{index, element_of, field, field_of, to_member, arrow, is_known, form_at, indexed_with}
 use Rattle.sa_typer.specs.Structures.{member_of}
 use Rattle.sa_typer.specs.Values.{constant}
-use Rattle.sa_typer.specs.Typing.{Typed, Typing, Gives, and_then, pure, refused, refuse_if}
+use Rattle.sa_typer.specs.Typing.{Gives, refused, refuse_if}
 use Rattle.sa_syntax.specs.declared.expr.PlaceBase.{PlaceBase}
 use Rattle.sa_syntax.specs.declared.expr.PlaceBase.TheVariants as base
 use Rattle.sa_syntax.specs.declared.decl.Qualified.{Qualified}
@@ -47,14 +47,14 @@ use Rattle.sa_typer.specs.Declarations as decl
 use Rattle.sa_typer.specs.Declarations.{variable, input, begun_with}
 use Rattle.sa_typer.specs.Definitions as def
 use Rattle.sa_typer.specs.Initialisers.{item, within, valued}
-use Rattle.sa_typer.specs.Places.{root_by, root_of, pointed_by, pointed, begins}
+use Rattle.sa_typer.specs.Places.{root_by, pointed_by, begins}
 use Rattle.sa_typer.specs.Scopes.{meaning_of, is_visible}
 use Rattle.sa_typer.specs.Statements.{to_number, to_struct, to_form, assigned, compounded_number, compounded_by, compounded, sort_by}
 use Rattle.sa_typer.specs.Types.{qualifier, qualifiers, is_misplaced, scalar, defined, tagged, type_name, not_void}
-use Rattle.sa_typer.specs.Typing.{fault, each}
+use Rattle.sa_typer.specs.Typing.{fault}
 use Rattle.sa_typer.specs.Places.{access}
 use Rattle.sa_rules.specs.Sites.{is_sited, of_dimension, of_item}
-use Rattle.sa_rules.proofs.SiteWalks.{Adds, Sub, sub_left, sub_right, sub_head, sub_rest, adds_none, adds_refusal, adds_then, adds_unless, adds_if, adds_by, adds_each}
+use Rattle.sa_rules.proofs.SiteWalks.{Adds, Sub, sub_head, sub_rest, adds_none, adds_refusal, adds_then, adds_unless, adds_if, adds_by, adds_each}
 
 -- the refusals with other codes are P all the same
 module _ (P : Fault → Type 0) (free : (k : ℕ) (q : Pos) → is_sited k ≡ false → P (fault k q)) where

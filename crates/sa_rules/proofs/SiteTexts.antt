@@ -1,5 +1,5 @@
 -- What initialisers, declarations, statements and whole texts may refuse.
-use Rattle.std.proofs.Common.{◌≡◌, ℕ, ◌+◌, Bool, true, false, not, ◌&&◌, List, [], ◌∷◌, ◌++◌, refl, sym, ap, subst, ◌∙◌, ◌⊎◌, inl, inr, arith, Option, Some, None}
+use Rattle.std.proofs.Common.{◌≡◌, ℕ, ◌+◌, Bool, true, false, not, ◌&&◌, List, [], ◌∷◌, ◌++◌, refl, subst, inl, inr, Option, Some, None}
 use Rattle.std.proofs.lemmas.List.Elements.{Contains-push_cases}
 use Rattle.std.specs.List.{Contains, flat_map}
 use Rattle.std.specs.Prelude.{ℤ, if◌then◌else◌}
@@ -41,20 +41,20 @@ use Rattle.sa_typer.specs.declared.types.Named.TheVariants as n
 use Rattle.sa_typer.specs.declared.types.Ty.{Ty}
 use Rattle.sa_typer.specs.Bodies as body
 use Rattle.sa_typer.specs.Bodies.{block, no_body, main_by, main_item, main_items, main_block, clock_loop}
-use Rattle.sa_typer.specs.Declarations.{initial, global_by, global, next_global, declared, input_type, are_bare, is_struct, begun_by, begun, local_of, next_local, locals, local}
+use Rattle.sa_typer.specs.Declarations.{initial, global_by, global, next_global, declared, input_type, are_bare, is_struct, begun_by, begun, local_of, next_local, local}
 use Rattle.sa_typer.specs.First.{expr_pos, init_pos, place_pos, item_pos}
 use Rattle.sa_typer.specs.Forms.{form_of}
 use Rattle.sa_typer.specs.Initialisers.{slotted, init, braced, values}
-use Rattle.sa_typer.specs.Scopes.{is_visible, count}
-use Rattle.sa_typer.specs.Statements.{compound_of, turn_of, one as just_one, left_side, simple, left_scope, scoped, directive, stmt, items, item}
+use Rattle.sa_typer.specs.Scopes.{is_visible}
+use Rattle.sa_typer.specs.Statements.{compound_of, turn_of, one as just_one, left_side, simple, scoped, directive, stmt, items, item}
 use Rattle.sa_typer.specs.Structures.{slot}
 use Rattle.sa_typer.specs.Types.{has_volatile, shape_of}
-use Rattle.sa_typer.specs.Typing.{Typed, Typing, Gives, and_then, pure, each, refused, refuse_if, fault}
+use Rattle.sa_typer.specs.Typing.{Typed, Typing, Gives, pure, fault}
 use Rattle.sa_typer.specs.Units as unit
 use Rattle.sa_typer.specs.Units.{plain_type, type_name, is_main, first_main, main, blank, has_entry, all_items, refusals}
 use Rattle.sa_rules.specs.Sites.{is_sited, of_item, of_expr, of_bound, of_place, of_specifiers, of_init, of_inits, of_start, of_global, of_local_start, of_local_declr, of_local, of_left, of_simple, of_stmt, of_items, of_block_item, of_loop_or_item, of_main_item, of_top, sites, StandAtSites}
 use Rattle.sa_rules.proofs.Exact.{none_in}
-use Rattle.sa_rules.proofs.SiteWalks.{Adds, Sub, sub_left, sub_right, sub_head, sub_rest, adds_none, adds_refusal, adds_then, adds_unless, adds_if, adds_by, adds_each, adds_all}
+use Rattle.sa_rules.proofs.SiteWalks.{Adds, Sub, sub_left, sub_right, sub_head, sub_rest, adds_none, adds_refusal, adds_then, adds_unless, adds_if, adds_by, adds_all}
 use Rattle.sa_rules.proofs.SiteParts.{refusal, unless, valued_adds, begun_with_adds, qualifiers_adds, named_adds, variable_adds, input_adds, assigned_adds, compounded_adds}
 use Rattle.sa_rules.proofs.SiteTrees.{expr_adds, spot_adds, type_adds, objects_adds, dimensions_adds, structure_adds}
 use Rattle.sa_rules.proofs.Walks.{state}

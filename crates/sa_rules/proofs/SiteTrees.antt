@@ -1,5 +1,5 @@
 -- What expressions, places and types may refuse.
-use Rattle.std.proofs.Common.{◌≡◌, ℕ, Bool, true, false, List, [], ◌∷◌, ◌++◌, refl, Option, Some, None}
+use Rattle.std.proofs.Common.{◌≡◌, ℕ, true, false, List, [], ◌++◌}
 use Rattle.std.specs.List.{flat_map}
 use Rattle.sa_base.specs.declared.pos.Pos.{Pos}
 use Rattle.sa_syntax.specs.declared.decl.Base as base
@@ -10,22 +10,20 @@ use Rattle.sa_syntax.specs.declared.decl.Qualified.{Qualified}
 use Rattle.sa_syntax.specs.declared.decl.Specifiers.{Specifiers, out-Specifiers}
 use Rattle.sa_syntax.specs.declared.decl.Struct.{Struct, Struct', Row_of-Field, more_of-Field, end_of-Field}
 use Rattle.sa_syntax.specs.declared.expr.Expr.{Expr, Number, Place', Bracket', Prefix', Cast', Chain', Choice', end_of-Expr, more_of-Expr, Row_of-Link, end_of-Link, more_of-Link, Row_of-Step, end_of-Step, more_of-Step, more_of-Specifiers, end_of-Specifiers}
-use Rattle.sa_syntax.specs.declared.expr.Operator.{Operator}
 use Rattle.sa_syntax.specs.declared.expr.Place.{Place, out-Place}
 use Rattle.sa_syntax.specs.declared.expr.Step.{Step, Index', Field, Arrow}
 use Rattle.sa_typer.specs.declared.operand.Left.{Left}
-use Rattle.sa_typer.specs.declared.operand.Operand.{Operand}
 use Rattle.sa_typer.specs.declared.operand.Spot.{Spot}
 use Rattle.sa_typer.specs.declared.structs.Fields.{Fields}
 use Rattle.sa_typer.specs.declared.typer.Typer.{Typer}
 use Rattle.sa_typer.specs.declared.types.Ty.{Ty}
 use Rattle.sa_typer.specs.Definitions.{no_fields}
-use Rattle.sa_typer.specs.Expressions.{expr, links, steps, step, base_type, structure, fields, field, declrs, declr, bounds, beside_first, linking, bounding}
+use Rattle.sa_typer.specs.Expressions.{expr, links, steps, step, base_type, structure, fields, field, declrs, declr, bounds, beside_first}
 use Rattle.sa_typer.specs.First.{expr_pos}
 use Rattle.sa_typer.specs.Lists as list
 use Rattle.sa_typer.specs.Operands.{prefix_of, left_of}
-use Rattle.sa_typer.specs.Types.{num_of, object, whole, qualified}
-use Rattle.sa_typer.specs.Typing.{Typed, Typing, Gives, and_then, pure, each}
+use Rattle.sa_typer.specs.Types.{num_of, object, whole}
+use Rattle.sa_typer.specs.Typing.{Typing}
 use Rattle.sa_typer.specs.declared.typer.Fault.{Fault}
 use Rattle.sa_typer.specs.Typing.{fault}
 use Rattle.sa_rules.specs.Sites.{is_sited, of_dimension, of_expr, of_links, of_steps, of_step, of_base, of_struct, of_fields, of_field, of_declrs, of_declr, of_bounds, of_bound, of_place, of_specifiers}

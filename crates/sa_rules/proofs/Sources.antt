@@ -1,9 +1,7 @@
 -- A whole source sees and refuses what its events do.
-use Rattle.std.proofs.Common.{◌≡◌, ℕ, Bool, true, false, ◌&&◌, List, [], ◌∷◌, ◌++◌, refl, sym, ap, subst, ◌∙◌, Option, Some, None}
+use Rattle.std.proofs.Common.{◌≡◌, Bool, true, false, ◌&&◌, List, [], ◌∷◌, ◌++◌, refl, sym, ap, subst, ◌∙◌, Option, Some, None}
 use Rattle.std.proofs.lemmas.List.Elements.{filter_map-append}
-use Rattle.std.specs.Prelude.{if◌then◌else◌, codes}
-use Rattle.std.specs.Str.{bytes_eq}
-use Rattle.sa_base.specs.declared.num.Num.{Num}
+use Rattle.std.specs.Prelude.{if◌then◌else◌}
 use Rattle.sa_base.specs.declared.pos.Pos.{Pos}
 use Rattle.sa_syntax.specs.declared.decl.Name.{Name}
 use Rattle.sa_syntax.specs.declared.decl.Specifiers.{Specifiers, out-Specifiers}
@@ -12,31 +10,28 @@ use Rattle.sa_syntax.specs.declared.stmt.BlockItem.{BlockItem}
 use Rattle.sa_syntax.specs.declared.unit.Item.{Item}
 use Rattle.sa_syntax.specs.declared.unit.Item.TheVariants as top
 use Rattle.sa_syntax.specs.declared.unit.Unit.{Unit as Source}
-use Rattle.sa_typer.specs.declared.bodies.Body.{Body}
 use Rattle.sa_typer.specs.declared.bodies.Entry.{Entry}
-use Rattle.sa_typer.specs.declared.typer.Fault.{Fault}
 use Rattle.sa_typer.specs.declared.typer.Typer.{Typer}
 use Rattle.sa_typer.specs.declared.types.Element.{Element}
 use Rattle.sa_typer.specs.declared.types.Element.TheVariants as el
 use Rattle.sa_typer.specs.declared.types.Named.TheVariants as n
 use Rattle.sa_typer.specs.declared.types.Ty.{Ty}
-use Rattle.sa_typer.specs.Bodies.{main_block}
 use Rattle.sa_typer.specs.Declarations.{is_struct}
 use Rattle.sa_typer.specs.Scopes.{Scope, is_visible}
-use Rattle.sa_typer.specs.Typing.{Typed, Typing, Gives, and_then, pure, each, refused, refuse_if, fault}
+use Rattle.sa_typer.specs.Typing.{Typed, Typing, Gives, and_then, pure, each, refused, fault}
 use Rattle.sa_typer.specs.Units as unit
 use Rattle.sa_typer.specs.Units.{plain_type, type_name, is_main, entry, first_main, main, blank, is_entry_type, is_entry, has_entry, all_items, refusals}
 use Rattle.sa_rules.specs.Events.{Event, Aliases, Declares, Main}
-use Rattle.sa_rules.specs.Rules.{declared_twice, at_if, place_of, refused_by, HasNoBadInitialiser}
-use Rattle.sa_rules.specs.Sight.{Kind, Open, Sight, nothing_seen, see, after, gives_int, declared_unless}
-use Rattle.sa_rules.specs.Texts.{in_plain, in_body, in_func, in_top, in_tops, in_main, has_loop, text}
-use Rattle.sa_rules.proofs.Walks.{Noted, note, noting, noting_append, noted, faults_at, kind_of, name_kind, seen_as, Same, Clear, state, value, Reads, quiet_gives, quiet_unless, quiet, bind, then_here, ends, left_empty, refused_clear, refused_noted}
-use Rattle.sa_rules.proofs.Steps.{At, Last, One, one, one_as, refused_one, nothing_added}
+use Rattle.sa_rules.specs.Rules.{at_if, place_of, refused_by, HasNoBadInitialiser}
+use Rattle.sa_rules.specs.Sight.{Kind, Sight, nothing_seen, see, after, gives_int, declared_unless}
+use Rattle.sa_rules.specs.Texts.{in_plain, in_body, in_func, in_top, in_tops, has_loop, text}
+use Rattle.sa_rules.proofs.Walks.{Noted, note, noting, noting_append, noted, faults_at, kind_of, Same, Clear, state, value, Reads, quiet_unless, quiet, bind, then_here, left_empty, refused_clear, refused_noted}
+use Rattle.sa_rules.proofs.Steps.{At, Last, one, one_as, refused_one, nothing_added}
 use Rattle.sa_rules.proofs.Names.{named_reads, aliases_reads}
 use Rattle.sa_rules.proofs.Qualifiers.{plain_qualifiers}
 use Rattle.sa_rules.proofs.Trees.{structure_reads, type_reads}
 use Rattle.sa_rules.proofs.Declared.{declared_reads}
-use Rattle.sa_rules.proofs.Blocks.{then_is, main_block_reads, main_clock}
+use Rattle.sa_rules.proofs.Blocks.{main_block_reads, main_clock}
 
 -- what is given at the end is made of what the walk gave
 ends_in : {A B : Type 0} {X Y : Sight → Type 0} {Z : B → Sight → Type 0} {s : Typer} {es : List Event} {t : Typed A} (f : A → B) → ((m : Sight) → Y m → Z (f (value t)) m) →

@@ -1,17 +1,14 @@
 -- Each step of typing that an event stands for: it sees and refuses what the event does.
-use Rattle.std.proofs.Common.{◌≡◌, ℕ, Bool, true, false, List, [], ◌∷◌, ◌++◌, length, take, refl, sym, ap, subst, ◌∙◌, arith, Option, Some, None}
-use Rattle.std.proofs.lemmas.List.{append-nil, map-append, take-map, map-set}
+use Rattle.std.proofs.Common.{◌≡◌, ℕ, Bool, true, false, List, [], ◌∷◌, ◌++◌, refl, sym, ap, subst, ◌∙◌, Option, Some, None}
+use Rattle.std.proofs.lemmas.List.{append-nil}
 use Rattle.std.proofs.lemmas.Option.{slice_get-map}
-use Rattle.std.specs.Prelude.{if◌then◌else◌, ◌||◌, ◌&&◌, slice_get, map, set, option_map}
+use Rattle.std.specs.Prelude.{map, option_map}
 use Rattle.sa_base.specs.declared.num.Num.{Num}
 use Rattle.sa_base.specs.declared.pos.Pos.{Pos}
 use Rattle.sa_syntax.specs.declared.decl.Name.{Name}
 use Rattle.sa_syntax.specs.declared.decl.ScalarWord.{ScalarWord}
 use Rattle.sa_syntax.specs.declared.expr.PlaceBase.{PlaceBase}
 use Rattle.sa_syntax.specs.declared.expr.PlaceBase.TheVariants as base
-use Rattle.sa_typer.specs.declared.operand.Root.{Root}
-use Rattle.sa_typer.specs.declared.operand.Spot.{Spot}
-use Rattle.sa_typer.specs.declared.structs.Fields.{Fields}
 use Rattle.sa_typer.specs.declared.typer.Fault.{Fault}
 use Rattle.sa_typer.specs.declared.typer.Typer.{Typer}
 use Rattle.sa_typer.specs.declared.types.Element.{Element}
@@ -21,18 +18,15 @@ use Rattle.sa_typer.specs.declared.types.Named.TheVariants as n
 use Rattle.sa_typer.specs.declared.types.Tagged.{Tagged}
 use Rattle.sa_typer.specs.declared.types.Tagged.TheVariants as t
 use Rattle.sa_typer.specs.declared.types.Ty.{Ty}
-use Rattle.sa_typer.specs.Declarations as decl
-use Rattle.sa_typer.specs.Definitions as def
-use Rattle.sa_typer.specs.Definitions.{opened, is_alias, with_tag}
-use Rattle.sa_typer.specs.Places.{root_by, root_of, pointed_by, pointed, begun, begins, spot_of}
-use Rattle.sa_typer.specs.Scopes.{Scope, index_of, index_from, meaning_of, at, is_some, is_visible, with_name, with_meaning, oldest, count}
-use Rattle.sa_typer.specs.Types.{num_of, scalar, defined, tagged, type_name, alias, plain, qualified, not_void}
-use Rattle.sa_typer.specs.Typing.{Typed, Typing, Gives, and_then, pure, refused, refuse, fault}
-use Rattle.sa_rules.specs.Events.{Event, Misplaced, Words, Void, Tag, Named, Opens, Closes, Object, Uses, Declares, Aliases, Member, name_in}
-use Rattle.sa_rules.specs.Rules.{undeclared, declared_twice, no_type, at_if, at_unless}
+use Rattle.sa_typer.specs.Places.{root_by, pointed_by, begins}
+use Rattle.sa_typer.specs.Scopes.{Scope, index_from, meaning_of, at, is_some}
+use Rattle.sa_typer.specs.Types.{num_of, scalar, defined, tagged, type_name, alias, plain, not_void}
+use Rattle.sa_typer.specs.Typing.{Typed, Gives, refused, fault}
+use Rattle.sa_rules.specs.Events.{Event, Words, Void, Tag, Named, Object, Uses, name_in}
+use Rattle.sa_rules.specs.Rules.{at_if, at_unless}
 use Rattle.sa_rules.specs.Sight as sight
 use Rattle.sa_rules.specs.Sight.{Kind, Open, Braces, Sight, see, is_complete, tag_kind, words_kind, alias_kind, is_type_name, is_nothing, is_taken, fields_so_far, with_open}
-use Rattle.sa_rules.proofs.Walks.{is_noted, noted, broken, faults_at, Noted, note, noting, kind_of, name_kind, is_struct_tag, seen_as, Same, Clear, state, value, Reads, Quiet, quiet_gives, quiet_refuses, refused_clear, refused_noted, other_noted, quiet, bind, ends, so, from}
+use Rattle.sa_rules.proofs.Walks.{is_noted, noted, broken, faults_at, note, kind_of, name_kind, is_struct_tag, seen_as, Clear, state, value, Reads, quiet_gives, refused_clear, refused_noted, other_noted, ends}
 
 -- what is open, and whether there was a main with the clock loop
 pub record At (os : List Open) (found : Bool) (m : Sight) : Type 0 where

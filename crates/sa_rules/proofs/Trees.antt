@@ -1,5 +1,5 @@
 -- Expressions, places and types see and refuse what their events do.
-use Rattle.std.proofs.Common.{◌≡◌, ℕ, Bool, true, false, List, [], ◌∷◌, ◌++◌, refl, sym, ap, subst, ◌∙◌, Option, Some, None}
+use Rattle.std.proofs.Common.{ℕ, Bool, List, [], ◌∷◌, ◌++◌, refl, Option}
 use Rattle.std.specs.List.{flat_map}
 use Rattle.sa_base.specs.declared.pos.Pos.{Pos}
 use Rattle.sa_syntax.specs.declared.decl.Base as base
@@ -10,26 +10,23 @@ use Rattle.sa_syntax.specs.declared.decl.Qualified.{Qualified}
 use Rattle.sa_syntax.specs.declared.decl.Specifiers.{Specifiers, out-Specifiers}
 use Rattle.sa_syntax.specs.declared.decl.Struct.{Struct, Struct', Row_of-Field, more_of-Field, end_of-Field}
 use Rattle.sa_syntax.specs.declared.expr.Expr.{Expr, Number, Place', Bracket', Prefix', Cast', Chain', Choice', end_of-Expr, more_of-Expr, Row_of-Link, end_of-Link, more_of-Link, Row_of-Step, end_of-Step, more_of-Step, more_of-Specifiers, end_of-Specifiers}
-use Rattle.sa_syntax.specs.declared.expr.Operator.{Operator}
 use Rattle.sa_syntax.specs.declared.expr.Place.{Place, out-Place}
 use Rattle.sa_syntax.specs.declared.expr.Step.{Step, Index', Field, Arrow}
 use Rattle.sa_typer.specs.declared.operand.Left.{Left}
-use Rattle.sa_typer.specs.declared.operand.Operand.{Operand}
 use Rattle.sa_typer.specs.declared.operand.Spot.{Spot}
 use Rattle.sa_typer.specs.declared.structs.Fields.{Fields}
 use Rattle.sa_typer.specs.declared.typer.Typer.{Typer}
 use Rattle.sa_typer.specs.declared.types.Ty.{Ty}
 use Rattle.sa_typer.specs.Definitions.{no_fields}
-use Rattle.sa_typer.specs.Expressions.{expr, links, steps, step, base_type, structure, fields, field, declrs, declr, bounds, beside_first, linking, bounding}
-use Rattle.sa_typer.specs.First.{expr_pos}
+use Rattle.sa_typer.specs.Expressions.{expr, links, steps, step, base_type, structure, fields, field, declrs, declr, bounds, beside_first}
 use Rattle.sa_typer.specs.Lists as list
 use Rattle.sa_typer.specs.Operands.{prefix_of, left_of}
 use Rattle.sa_typer.specs.Types.{num_of, object, whole, qualified}
-use Rattle.sa_typer.specs.Typing.{Typed, Typing, Gives, and_then, pure, each}
+use Rattle.sa_typer.specs.Typing.{Typed, Typing, Gives, and_then, pure}
 use Rattle.sa_rules.specs.Events.{Event, Object, in_expr, in_links, in_steps, in_step, in_base, in_struct, in_fields, in_field, in_declrs, in_declr, in_bounds, in_bound}
-use Rattle.sa_rules.specs.Sight.{Open, Braces, Sight}
+use Rattle.sa_rules.specs.Sight.{Open, Braces}
 use Rattle.sa_rules.specs.Texts.{in_place, in_type, in_object}
-use Rattle.sa_rules.proofs.Walks.{state, value, then_here, Reads, Quiet, quiet_gives, quiet_then, quiet, stays, bind, ends, so, from, all_parts}
+use Rattle.sa_rules.proofs.Walks.{state, value, then_here, Reads, Quiet, quiet_gives, quiet_then, quiet, stays, bind, ends, so, all_parts}
 use Rattle.sa_rules.proofs.Steps.{At, Last, forget, begins_reads, scalar_reads, void_reads, tagged_reads, type_name_reads, object_reads}
 use Rattle.sa_rules.proofs.Names.{opened_reads, closed_reads, field_reads}
 use Rattle.sa_rules.proofs.Dimensions.{known_there, dimension_reads}

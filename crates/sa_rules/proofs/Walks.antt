@@ -1,12 +1,11 @@
 -- What a walk of typing sees and refuses, as far as names, tags, words of types, qualifiers and the wait go: the same as the
 -- events of its part of the tree.
-use Rattle.std.proofs.Common.{◌≡◌, ℕ, Bool, true, false, List, [], ◌∷◌, ◌++◌, length, take, refl, sym, ap, subst, ◌∙◌, arith, Option, Some, None}
-use Rattle.std.proofs.lemmas.List.{append-nil, map-append, take-map, map-set}
+use Rattle.std.proofs.Common.{◌≡◌, ℕ, Bool, true, false, List, [], ◌∷◌, ◌++◌, refl, sym, ap, subst, ◌∙◌, Option, Some, None}
+use Rattle.std.proofs.lemmas.List.{append-nil}
 use Rattle.std.proofs.lemmas.List.Elements.{filter-append, filter_map-append}
 use Rattle.std.proofs.lemmas.List.Sums.{fold-append}
-use Rattle.std.proofs.lemmas.Option.{slice_get-map}
-use Rattle.std.specs.List.{filter, filter_map, fold, flat_map}
-use Rattle.std.specs.Prelude.{if◌then◌else◌, ◌==◌, ◌||◌, slice_get, map, set, option_map}
+use Rattle.std.specs.List.{filter, fold, flat_map}
+use Rattle.std.specs.Prelude.{if◌then◌else◌, ◌==◌, ◌||◌, map}
 use Rattle.sa_base.specs.declared.pos.Pos.{Pos}
 use Rattle.sa_typer.specs.declared.typer.Fault.{Fault}
 use Rattle.sa_typer.specs.declared.typer.Typer.{Typer}
@@ -16,8 +15,8 @@ use Rattle.sa_typer.specs.declared.types.Named as named
 use Rattle.sa_typer.specs.declared.types.Named.TheVariants as n
 use Rattle.sa_typer.specs.declared.types.Tagged.{Tagged}
 use Rattle.sa_typer.specs.declared.types.Tagged.TheVariants as t
-use Rattle.sa_typer.specs.Scopes.{Scope, index_of, meaning_of, at, is_visible, with_name, with_meaning, oldest}
-use Rattle.sa_typer.specs.Typing.{Typed, Typing, Gives, and_then, each, refused, refuse, refuse_if, fault}
+use Rattle.sa_typer.specs.Scopes.{Scope}
+use Rattle.sa_typer.specs.Typing.{Typed, Typing, Gives, and_then, each, refused, refuse_if, fault}
 use Rattle.sa_rules.specs.Events.{Event}
 use Rattle.sa_rules.specs.Sight as sight
 use Rattle.sa_rules.specs.Sight.{Kind, Open, Sight, see}

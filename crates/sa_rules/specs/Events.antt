@@ -1,6 +1,6 @@
 -- What a text does with names, tags, the words of types, qualifiers and the wait: the events of its parts, in the order in
 -- which they are met. What isn't analysed yet (see sa_unbuilt) does nothing.
-use Rattle.std.specs.Prelude.{List, [], ◌∷◌, ◌++◌, Bool, true, false, Option, Some, None}
+use Rattle.std.specs.Prelude.{List, [], ◌∷◌, ◌++◌, Bool, true, false, Option}
 use Rattle.sa_base.specs.declared.pos.Pos.{Pos}
 use Rattle.sa_syntax.specs.declared.decl.Base as base
 use Rattle.sa_syntax.specs.declared.decl.Bound.{Bound, out-Bound}
@@ -10,7 +10,7 @@ use Rattle.sa_syntax.specs.declared.decl.Field.{Field', Row_of-Declr, more_of-De
 use Rattle.sa_syntax.specs.declared.decl.Name.{Name}
 use Rattle.sa_syntax.specs.declared.decl.Qualified.{Qualified}
 use Rattle.sa_syntax.specs.declared.decl.Qualifier.{Qualifier}
-use Rattle.sa_syntax.specs.declared.decl.Qualifier.TheVariants.{Const, Volatile, Static}
+use Rattle.sa_syntax.specs.declared.decl.Qualifier.TheVariants.{Const, Volatile}
 use Rattle.sa_syntax.specs.declared.decl.ScalarWord.{ScalarWord}
 use Rattle.sa_syntax.specs.declared.decl.Struct.{Struct, Struct', Row_of-Field, more_of-Field, end_of-Field}
 use Rattle.sa_syntax.specs.declared.expr.Expr.{Expr, Number, Place', Bracket', Prefix', Cast', Chain', Choice', end_of-Expr, more_of-Expr, Row_of-Link, end_of-Link, more_of-Link, Row_of-Step, end_of-Step, more_of-Step, more_of-Specifiers, end_of-Specifiers}

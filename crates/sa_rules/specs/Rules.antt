@@ -13,7 +13,7 @@ use Rattle.sa_typer.specs.Scopes.{is_visible, is_some, meaning_of}
 use Rattle.sa_typer.specs.Types.{num_of}
 use Rattle.sa_typer.specs.Typing.{fault}
 use Rattle.sa_typer.specs.Units.{refusals}
-use Rattle.sa_rules.specs.Events.{Event, Misplaced, Volatile_before_bare, Words, Void, Tag, Named, Opens, Closes, Object, Uses, Declares, Aliases, Member, Dimension, Initial, Begins, Ends, Stray, Main}
+use Rattle.sa_rules.specs.Events.{Event, Misplaced, Volatile_before_bare, Words, Tag, Opens, Object, Uses, Declares, Aliases, Member, Dimension, Initial, Stray}
 use Rattle.sa_rules.specs.Sight.{Sight, nothing_seen, see, after, is_taken, is_complete, is_nothing, is_structure}
 use Rattle.sa_rules.specs.Texts.{text}
 use Rattle.sa_rules.specs.Values.{value_of}

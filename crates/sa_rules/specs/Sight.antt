@@ -1,5 +1,5 @@
 -- What is visible after some events: names, tags, and what is open.
-use Rattle.std.specs.Prelude.{ℕ, List, [], ◌∷◌, ◌++◌, ◌&&◌, ◌||◌, Bool, true, false, if◌then◌else◌, length, Option, Some, None}
+use Rattle.std.specs.Prelude.{ℕ, List, [], ◌∷◌, ◌++◌, ◌&&◌, ◌||◌, Bool, true, false, Option, Some, None}
 use Rattle.std.specs.List.{fold}
 use Rattle.sa_base.specs.declared.num.Num.{Num}
 use Rattle.sa_syntax.specs.declared.decl.Name.{Name}

@@ -3,7 +3,7 @@
 -- dimension, 20 at the first token of an initialiser or of an item of it. Whether they stand there depends on what expressions
 -- are typed as.
 use Rattle.std.specs.List.{Contains, flat_map}
-use Rattle.std.specs.Prelude.{ℕ, List, [], ◌∷◌, ◌++◌, ◌==◌, ◌||◌, ◌≡◌, Bool, true, false, if◌then◌else◌, codes, Option, Some, None}
+use Rattle.std.specs.Prelude.{ℕ, List, [], ◌∷◌, ◌++◌, ◌==◌, ◌||◌, ◌≡◌, Bool, true, Option, Some, None}
 use Rattle.sa_base.specs.declared.pos.Pos.{Pos}
 use Rattle.sa_syntax.specs.declared.decl.Base as base
 use Rattle.sa_syntax.specs.declared.decl.Bound.{Bound, out-Bound}

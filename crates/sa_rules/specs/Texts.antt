@@ -3,7 +3,7 @@ use Rattle.std.specs.List.{flat_map}
 use Rattle.std.specs.Prelude.{List, [], ◌∷◌, ◌++◌, ◌||◌, Bool, true, false, if◌then◌else◌, codes, Option, Some, None}
 use Rattle.std.specs.Str.{bytes_eq}
 use Rattle.sa_base.specs.declared.pos.Pos.{Pos}
-use Rattle.sa_syntax.specs.declared.decl.Declr.{Declr, out-Declr}
+use Rattle.sa_syntax.specs.declared.decl.Declr.{out-Declr}
 use Rattle.sa_syntax.specs.declared.decl.Init as init
 use Rattle.sa_syntax.specs.declared.decl.Init.{Init, Row_of-Init, end_of-Init, more_of-Init}
 use Rattle.sa_syntax.specs.declared.decl.InitDeclr.{InitDeclr}
