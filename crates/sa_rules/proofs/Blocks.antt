@@ -1,0 +1,212 @@
+-- Statements, blocks and main see and refuse what their events do.
+use Rattle.std.proofs.Common.{◌≡◌, ℕ, Bool, true, false, ◌||◌, List, [], ◌∷◌, ◌++◌, refl, ap, subst, ◌∙◌, Option, Some, None}
+use Rattle.std.specs.List.{flat_map}
+use Rattle.sa_base.specs.declared.num.Num.{Num}
+use Rattle.sa_base.specs.declared.pos.Pos.{Pos}
+use Rattle.sa_syntax.specs.declared.expr.Place.{Place}
+use Rattle.sa_syntax.specs.declared.stmt.BlockItem as blocks
+use Rattle.sa_syntax.specs.declared.stmt.BlockItem.{BlockItem}
+use Rattle.sa_syntax.specs.declared.stmt.Directive.{Directive}
+use Rattle.sa_syntax.specs.declared.stmt.Directive.TheVariants as d
+use Rattle.sa_syntax.specs.declared.stmt.Simple as from_tree
+use Rattle.sa_syntax.specs.declared.stmt.Simple.TheVariants as x
+use Rattle.sa_syntax.specs.declared.stmt.Stmt as stmts
+use Rattle.sa_syntax.specs.declared.stmt.Stmt.{Row_of-BlockItem, end_of-BlockItem, more_of-BlockItem}
+use Rattle.sa_typed.specs.declared.expr.Access.{Access}
+use Rattle.sa_typed.specs.declared.expr.Expr.{Expr}
+use Rattle.sa_typed.specs.declared.expr.Operator.{Operator}
+use Rattle.sa_typed.specs.declared.stmt.Stmt.{Stmt}
+use Rattle.sa_typer.specs.declared.bodies.Body.{Body}
+use Rattle.sa_typer.specs.declared.form.Form.{Form}
+use Rattle.sa_typer.specs.declared.form.Form.TheVariants as form
+use Rattle.sa_typer.specs.declared.operand.Operand.{Operand}
+use Rattle.sa_typer.specs.declared.operand.Operand.TheVariants as a
+use Rattle.sa_typer.specs.declared.operand.Sort.{Sort}
+use Rattle.sa_typer.specs.declared.operand.Sort.TheVariants as sort
+use Rattle.sa_typer.specs.declared.operand.Spot.{Spot}
+use Rattle.sa_typer.specs.declared.typer.Typer.{Typer}
+use Rattle.sa_typer.specs.Bodies as body
+use Rattle.sa_typer.specs.Bodies.{block, no_body, main_by, main_item, main_items, main_block, clock_loop}
+use Rattle.sa_typer.specs.First.{place_pos, item_pos}
+use Rattle.sa_typer.specs.Operands.{is_object}
+use Rattle.sa_typer.specs.Places.{access, form_at}
+use Rattle.sa_typer.specs.Scopes.{Scope, is_some, oldest, count}
+use Rattle.sa_typer.specs.Statements.{to_number, to_struct, to_form, assigned, compound_of, turn_of, one as just_one, sort_by, compounded_number, compounded_by, compounded, left_side, simple, left_scope, scoped, directive, stmt, items, item}
+use Rattle.sa_typer.specs.Typing.{Typed, Typing, Gives, and_then, each, refuse_if, fault}
+use Rattle.sa_rules.specs.Events.{Event, Begins, Ends}
+use Rattle.sa_rules.specs.Sight.{Kind, Open, Block, see, left}
+use Rattle.sa_rules.specs.Texts.{in_place, in_simple, in_directive, in_stmt, in_items, in_item, in_loop_or_item, stray_if, in_main, has_loop}
+use Rattle.sa_rules.proofs.Walks.{name_kind, is_struct_tag, seen_as, state, value, Reads, Quiet, quiet_gives, quiet_refuses, quiet_then, quiet_unless, quiet, bind, then_here, ends, from, all_parts, refused_clear, refused_noted}
+use Rattle.sa_rules.proofs.Steps.{At, one, one_as, refused_one, nothing_added}
+use Rattle.sa_rules.proofs.Names.{oldest_seen}
+use Rattle.sa_rules.proofs.Trees.{expr_reads, spot_reads}
+use Rattle.sa_rules.proofs.Declared.{local_reads}
+
+-- ---- assignments
+to_number_quiet : (y : Access) (num : Num) (p : Pos) (i : Operand) (s : Typer) → Quiet s (to_number y num p i s)
+to_number_quiet y num p (a.Number e from v) s = quiet_gives
+to_number_quiet y num p (a.Struct z k fixed q) s = quiet_refuses 5 p refl
+to_number_quiet y num p (a.Array q) s = quiet_refuses 5 p refl
+to_number_quiet y num p a.Unknown s = quiet_gives
+
+to_struct_quiet : (y : Access) (fixed : Bool) (k : ℕ) (p : Pos) (i : Operand) (s : Typer) → Quiet s (to_struct y fixed k p i s)
+to_struct_quiet y fixed k p (a.Number e from v) s = quiet_refuses 5 p refl
+to_struct_quiet y fixed k p (a.Struct z j g q) s = quiet_then (quiet_unless _ 7 p refl) (λ b t. quiet_gives)
+to_struct_quiet y fixed k p (a.Array q) s = quiet_refuses 5 p refl
+to_struct_quiet y fixed k p a.Unknown s = quiet_gives
+
+to_form_quiet : (l : Spot) (o : Option Form) (p : Pos) (i : Operand) (s : Typer) → Quiet s (to_form l o p i s)
+to_form_quiet l None p i s = quiet_gives
+to_form_quiet l (Some (form.Scalar num)) p i s = to_number_quiet (access l) num p i s
+to_form_quiet l (Some (form.Struct k)) p i s = to_struct_quiet (access l) l.fixed k p i s
+to_form_quiet l (Some (form.Array n)) p i s = quiet_refuses 5 p refl
+
+assigned_quiet : (l : Spot) (p : Pos) (i : Operand) (s : Typer) → Quiet s (assigned l p i s)
+unfolding assigned
+assigned_quiet l p i s = to_form_quiet l (form_at l) p i s
+
+compounded_number_quiet : (y : Access) (o : Operator) (p : Pos) (k : Sort) (e : Expr) (num : Num) (s : Typer) → Quiet s (compounded_number y o p k e num s)
+compounded_number_quiet y o p (sort.Number to) e num s = quiet_gives
+compounded_number_quiet y o p sort.Object e num s = quiet_refuses 5 p refl
+compounded_number_quiet y o p sort.Unknown e num s = quiet_gives
+
+compounded_by_quiet : (y : Access) (o : Operator) (p : Pos) (k : Sort) (i : Operand) (s : Typer) → Quiet s (compounded_by y o p k i s)
+compounded_by_quiet y o p k (a.Number e num v) s = compounded_number_quiet y o p k e num s
+compounded_by_quiet y o p k (a.Struct z j fixed q) s = quiet_refuses 5 p refl
+compounded_by_quiet y o p k (a.Array q) s = quiet_refuses 5 p refl
+compounded_by_quiet y o p k a.Unknown s = quiet_then (quiet_unless (is_object k) 5 p refl) (λ b t. quiet_gives)
+
+compounded_quiet : (l : Spot) (o : Operator) (p : Pos) (i : Operand) (s : Typer) → Quiet s (compounded l o p i s)
+unfolding compounded
+compounded_quiet l o p i s = compounded_by_quiet (access l) o p (sort_by (form_at l)) i s
+
+-- ---- the clock loop
+pub then_is : {A B : Type 0} (t : Typed A) (f : A → Typing B) → and_then t f ≡ f (value t) (state t)
+then_is (Gives a s) f = refl
+
+or_true : (b : Bool) → true ≡ (b || true)
+or_true true = refl
+or_true false = refl
+
+or_false : (b : Bool) → b ≡ (b || false)
+or_false true = refl
+or_false false = refl
+
+clock_by : (o : Option (List BlockItem)) (i : BlockItem) (b : Body) (s : Typer) → (value (main_by o i b s)).clock ≡ (b.clock || is_some o)
+clock_by (Some before) i b s = ap (λ (t : Typed Body). (value t).clock) (then_is (block before s) _) ∙ or_true b.clock
+clock_by None i b s = ap (λ (t : Typed Body). (value t).clock) (then_is (item i b.stmts s) _) ∙ or_false b.clock
+
+clock_after : (i : BlockItem) (b : Body) (s : Typer) → (value (main_item i b s)).clock ≡ (b.clock || is_some (clock_loop i))
+unfolding main_item
+clock_after i b s =
+    ap (λ (t : Typed Body). (value t).clock) (then_is (refuse_if b.clock 23 (item_pos i) s) (λ u. main_by (clock_loop i) i b)) ∙ clock_by (clock_loop i) i b (state (refuse_if b.clock 23 (item_pos i) s))
+
+clock_in : (is : List BlockItem) (b : Body) (s : Typer) → (value (main_items is b s)).clock ≡ has_loop b.clock is
+unfolding each has_loop
+clock_in [] b s = refl
+clock_in (i ∷ is) b s =
+    ap (λ (t : Typed Body). (value t).clock) (then_is (main_item i b s) (each main_item is)) ∙ clock_in is (value (main_item i b s)) (state (main_item i b s))
+    ∙ ap (λ (c : Bool). has_loop c is) (clock_after i b s)
+
+pub main_clock : (is : List BlockItem) (s : Typer) → (value (main_block is s)).clock ≡ has_loop false is
+unfolding main_block scoped
+main_clock is s =
+    ap (λ (t : Typed Body). (value t).clock) (then_is (main_items is no_body s) (left_scope (count s.names) (count s.tags))) ∙ clock_in is no_body s
+
+module _ (found : Bool) where
+  left_reads : (os : List Open) (y : Place) (s : Typer) → Reads (At os found) s (in_place y) (λ l. At os found) (left_side y s)
+  left_reads os y s = ends (spot_reads found os y s) (λ l t. quiet_then (quiet_unless l.locked 6 (place_pos y) refl) (λ u v. quiet_gives))
+
+  simple_reads : (os : List Open) (y : from_tree.Simple) (s : Typer) → Reads (At os found) s (in_simple y) (λ a. At os found) (simple y s)
+  unfolding simple in_simple
+  simple_reads os (x.Assign y q i) s = bind (left_reads os y s) (λ l t. ends (expr_reads found os i t) (λ j u. assigned_quiet l q j u))
+  simple_reads os (x.Compound y o q i) s = bind (left_reads os y s) (λ l t. ends (expr_reads found os i t) (λ j u. compounded_quiet l (compound_of o) q j u))
+  simple_reads os (x.After y o q) s = ends (left_reads os y s) (λ l t. compounded_quiet l (turn_of o) q just_one t)
+  simple_reads os (x.Before o q y) s = ends (left_reads os y s) (λ l t. compounded_quiet l (turn_of o) q just_one t)
+
+  -- ---- blocks
+  begins_reads : (os : List Open) (s : Typer) → Reads (At os found) s (Begins ∷ []) (λ u. At (Block (count s.names) (count s.tags) ∷ os) found) (Gives (tt {0}) s)
+  unfolding see
+  begins_reads os s =
+      one (λ c. c)
+      (λ m ns ts h. one_as (record m { opened = Block (count m.names) (count m.tags) ∷ m.opened }) [] refl refl ns ts (nothing_added s)
+      (record {
+        opened = ap (λ (l : List Open). Block (count m.names) (count m.tags) ∷ l) h.opened ∙ ap (λ (k : Scope (Option Kind)). Block (count k) (count m.tags) ∷ os) ns
+            ∙ ap (λ (k : Scope Bool). Block (count {M = Option Kind} (seen_as name_kind s.names)) (count k) ∷ os) ts ∙ same_counts s;
+        entry = h.entry;
+      })) where
+        map_length : {M N : Type 0} (f : M → N) (n : Scope M) → count (seen_as f n) ≡ count n
+        map_length f n = refl
+
+        same_counts : (s : Typer) → Block (count (seen_as name_kind s.names)) (count (seen_as is_struct_tag s.tags)) ∷ os ≡ Block (count s.names) (count s.tags) ∷ os
+        same_counts s = refl
+
+  ends_reads : {A : Type 0} (os : List Open) (names tags : ℕ) (b : A) (s : Typer) → Reads (At (Block names tags ∷ os) found) s (Ends ∷ []) (λ (b : A). At os found) (left_scope names tags b s)
+  unfolding see
+  ends_reads os names tags b s =
+      one (λ c. record { none = c.none })
+      (λ m ns ts h. one_as (record m { names = oldest names m.names; tags = oldest tags m.tags; opened = os }) [] (ap (λ (l : List Open). left l m) h.opened) refl
+      (ap (λ (k : Scope (Option Kind)). oldest names k) ns ∙ oldest_seen name_kind names s.names) (ap (λ (k : Scope Bool). oldest tags k) ts ∙ oldest_seen is_struct_tag tags s.tags) (nothing_added s)
+      (record { opened = refl; entry = h.entry }))
+
+  scoped_reads : {A : Type 0} (os : List Open) (m : Typing A) (es : List Event) (s : Typer) →
+      ((inner : List Open) → Reads (At inner found) s es (λ (b : A). At inner found) (m s)) → Reads (At os found) s (Begins ∷ (es ++ Ends ∷ [])) (λ (b : A). At os found) (scoped m s)
+  unfolding scoped
+  scoped_reads os m es s h =
+      then_here (λ u t. and_then (m t) (left_scope (count s.names) (count s.tags))) (begins_reads os s)
+      (bind (h (Block (count s.names) (count s.tags) ∷ os)) (λ b t. ends_reads os (count s.names) (count s.tags) b t))
+
+  -- ---- statements
+  directive_reads : (os : List Open) (q : Pos) (y : Directive) (s : Typer) → Reads (At os found) s (in_directive q y) (λ (u : Unit {0}). At os found) (directive q y s)
+  unfolding see
+  directive_reads os q d.Wait s = one (refused_clear 23 q s) (λ m ns ts h. refused_one 23 q m (fault 23 q ∷ []) refl refl ns ts (refused_noted 23 q s) h)
+  directive_reads os q d.Partition s = quiet quiet_gives
+  directive_reads os q (d.KnownFact y) s = quiet quiet_gives
+  directive_reads os q (d.Assert y) s = quiet quiet_gives
+
+  mutual
+    unfolding stmt in_stmt
+
+    stmt_reads : (os : List Open) (y : stmts.Stmt) (ss : List Stmt) (s : Typer) → Reads (At os found) s (in_stmt y) (λ ss. At os found) (stmt y ss s)
+    stmt_reads os (stmts.Block' p n row r) ss s = ends (scoped_reads os (items row []) (in_items row) s (λ inner. items_reads inner row [] s)) (λ ts t. quiet_gives)
+    stmt_reads os (stmts.Simple y) ss s = ends (simple_reads os y s) (λ y t. quiet_gives)
+    stmt_reads os (stmts.Directive q y) ss s = ends (directive_reads os q y s) (λ u t. quiet_gives)
+    stmt_reads os _ ss s = quiet quiet_gives
+
+    items_reads : {n : _} (os : List Open) (row : Row_of-BlockItem n) (ss : List Stmt) (s : Typer) → Reads (At os found) s (in_items row) (λ ss. At os found) (items row ss s)
+    items_reads os end_of-BlockItem ss s = quiet quiet_gives
+    items_reads os (more_of-BlockItem i rest) ss s = bind (item_reads os i ss s) (λ ss t. items_reads os rest ss t)
+
+    item_reads : (os : List Open) (i : blocks.BlockItem) (ss : List Stmt) (s : Typer) → Reads (At os found) s (in_item i) (λ ss. At os found) (item i ss s)
+    item_reads os (blocks.Local l) ss s = local_reads os found l ss s
+    item_reads os (blocks.Stmt y) ss s = stmt_reads os y ss s
+
+  block_reads : (os : List Open) (is : List BlockItem) (s : Typer) → Reads (At os found) s (Begins ∷ (flat_map in_item is ++ Ends ∷ [])) (λ ss. At os found) (block is s)
+  unfolding block
+  block_reads os is s = scoped_reads os (body.items is []) (flat_map in_item is) s (λ inner. all_parts (At inner found) item in_item (λ i ss s. item_reads inner i ss s) is [] s)
+
+  -- ---- main
+  stray_reads : (os : List Open) (c : Bool) (p : Pos) (s : Typer) → Reads (At os found) s (stray_if c p) (λ (u : Unit {0}). At os found) (refuse_if c 23 p s)
+  unfolding see
+  stray_reads os true p s = one (refused_clear 23 p s) (λ m ns ts h. refused_one 23 p m (fault 23 p ∷ []) refl refl ns ts (refused_noted 23 p s) h)
+  stray_reads os false p s = quiet quiet_gives
+
+  by_reads : (os : List Open) (o : Option (List BlockItem)) (i : BlockItem) (b : Body) (s : Typer) → Reads (At os found) s (in_loop_or_item o i) (λ b. At os found) (main_by o i b s)
+  by_reads os (Some before) i b s = ends (block_reads os before s) (λ ss t. quiet_gives)
+  by_reads os None i b s = ends (item_reads os i b.stmts s) (λ ss t. quiet_gives)
+
+  main_item_reads : (os : List Open) (i : BlockItem) (b : Body) (s : Typer) → Reads (At os found) s (stray_if b.clock (item_pos i) ++ in_loop_or_item (clock_loop i) i) (λ b. At os found) (main_item i b s)
+  unfolding main_item
+  main_item_reads os i b s = bind (stray_reads os b.clock (item_pos i) s) (λ u t. by_reads os (clock_loop i) i b t)
+
+  main_items_reads : (os : List Open) (is : List BlockItem) (b : Body) (c : Bool) (s : Typer) → b.clock ≡ c → Reads (At os found) s (in_main c is) (λ b. At os found) (main_items is b s)
+  unfolding each in_main
+  main_items_reads os [] b c s h = quiet quiet_gives
+  main_items_reads os (i ∷ is) b c s h =
+      then_here (each main_item is)
+      (subst (λ (k : Bool). Reads (At os found) s (stray_if k (item_pos i) ++ in_loop_or_item (clock_loop i) i) (λ b. At os found) (main_item i b s)) h (main_item_reads os i b s))
+      (main_items_reads os is (value (main_item i b s)) (c || is_some (clock_loop i)) (state (main_item i b s)) (clock_after i b s ∙ ap (λ (k : Bool). k || is_some (clock_loop i)) h))
+
+  pub main_block_reads : (os : List Open) (is : List BlockItem) (s : Typer) → Reads (At os found) s (Begins ∷ (in_main false is ++ Ends ∷ [])) (λ b. At os found) (main_block is s)
+  unfolding main_block
+  main_block_reads os is s = scoped_reads os (main_items is no_body) (in_main false is) s (λ inner. main_items_reads inner is no_body false s refl)

@@ -1,0 +1,127 @@
+-- For each code of a refusal the places of a text that it refuses. A rule says of an event, given what is visible before it,
+-- whether it is refused, and where.
+use Rattle.std.specs.Prelude.{ℕ, List, [], ◌∷◌, ◌++◌, Bool, true, false, if◌then◌else◌, ◌==◌, ◌≡◌, Option, Some, None}
+use Rattle.std.specs.List.{Contains, filter_map}
+use Rattle.sa_base.specs.declared.pos.Pos.{Pos}
+use Rattle.sa_syntax.specs.declared.unit.Unit.{Unit as Source}
+use Rattle.sa_typer.specs.declared.constant.Value.{Value}
+use Rattle.sa_typer.specs.declared.constant.Value.TheVariants.{Varies, Errs, Is}
+use Rattle.sa_typer.specs.declared.typer.Fault.{Fault}
+use Rattle.sa_typer.specs.Definitions.{is_dimension}
+use Rattle.sa_typer.specs.First.{expr_pos}
+use Rattle.sa_typer.specs.Scopes.{is_visible, is_some, meaning_of}
+use Rattle.sa_typer.specs.Types.{num_of}
+use Rattle.sa_typer.specs.Typing.{fault}
+use Rattle.sa_typer.specs.Units.{refusals}
+use Rattle.sa_rules.specs.Events.{Event, Misplaced, Volatile_before_bare, Words, Tag, Opens, Object, Uses, Declares, Aliases, Member, Dimension, Initial, Stray}
+use Rattle.sa_rules.specs.Sight.{Sight, nothing_seen, see, after, is_taken, is_complete, is_nothing, is_structure}
+use Rattle.sa_rules.specs.Texts.{text}
+use Rattle.sa_rules.specs.Values.{value_of}
+
+abbrev pub Rule : Type 0
+Rule = Sight → Event → Option Pos
+
+abbrev pub at_if : Bool → Pos → Option Pos
+at_if true p = Some p
+at_if false p = None
+
+abbrev pub at_unless : Bool → Pos → Option Pos
+at_unless true p = None
+at_unless false p = Some p
+
+-- 1: a name that stands for a variable isn't visible, so that it stands for nothing
+abbrev pub undeclared : Rule
+undeclared m (Uses x) = at_unless (is_some (meaning_of m.names x.text)) x.pos
+undeclared m _ = None
+
+-- 2: a name that is declared is visible already; a field's is that of a field before in its structure, or a type name; a tag
+-- that is declared is a visible tag
+abbrev pub declared_twice : Rule
+declared_twice m (Declares x) = at_if (is_visible m.names x.text) x.pos
+declared_twice m (Aliases x) = at_if (is_visible m.names x.text) x.pos
+declared_twice m (Member x) = at_if (is_taken m x.text) x.pos
+declared_twice m (Opens (Some x)) = at_if (is_visible m.tags x.text) x.pos
+declared_twice m _ = None
+
+-- 3: words are none of a whole-number type, a tag isn't that of a complete structure, an object's type is void
+abbrev pub no_type : Rule
+no_type m (Words p ws) = at_unless (is_some (num_of ws)) p
+no_type m (Tag p x) = at_unless (is_complete (meaning_of m.tags x.text)) p
+no_type m (Object p) = at_if (is_nothing m.last) p
+no_type m _ = None
+
+-- 18: a dimension, or an initial value of the file scope or within braces, is no constant expression or errs
+abbrev pub unless_known : Pos → Value → Option Pos
+unless_known p Varies = Some p
+unless_known p Errs = Some p
+unless_known p _ = None
+
+abbrev pub no_constant : Rule
+no_constant m (Dimension x) = unless_known (expr_pos x) (value_of m.names x)
+no_constant m (Initial x) = unless_known (expr_pos x) (value_of m.names x)
+no_constant m _ = None
+
+-- 19: a dimension is a constant expression, but its value is below 1 or above 16,777,216
+abbrev pub out_of_range : Pos → Value → Option Pos
+out_of_range p (Is c) = at_unless (is_dimension c.value) p
+out_of_range p _ = None
+
+abbrev pub oversized : Rule
+oversized m (Dimension x) = out_of_range (expr_pos x) (value_of m.names x)
+oversized m _ = None
+
+-- 21: `volatile` elsewhere than at file scope before whole numbers without dimensions, `static` before fields
+abbrev pub misqualified : Rule
+misqualified m (Misplaced p) = Some p
+misqualified m (Volatile_before_bare p) = at_if (is_structure m.last) p
+misqualified m _ = None
+
+-- 23: a wait elsewhere than at the end of the clock loop, an item after the clock loop
+abbrev pub astray : Rule
+astray m (Stray p) = Some p
+astray m _ = None
+
+abbrev pub with_place : Option Pos → List Pos → List Pos
+with_place None ps = ps
+with_place (Some p) ps = p ∷ ps
+
+-- the places that a rule refuses in events that come after what was seen
+unfoldable pub places : Rule → Sight → List Event → List Pos
+places rule m [] = []
+places rule m (e ∷ es) = with_place (rule m e) (places rule (see m e) es)
+
+-- ---- refusals
+abbrev pub place_of : ℕ → Fault → Option Pos
+place_of code f = at_if (f.rule == code) f.pos
+
+-- the places of the refusals with a code
+abbrev pub refused_by : ℕ → List Fault → List Pos
+refused_by code fs = filter_map (place_of code) fs
+
+-- no initialiser is refused
+abbrev pub HasNoBadInitialiser : Source → Pos → Type 0
+HasNoBadInitialiser u end = refused_by 20 (refusals u end) ≡ []
+
+-- the refusals with that code stand exactly where the rule says
+abbrev pub IsRule : ℕ → Rule → Type 0
+IsRule code rule = (u : Source) (end : Pos) → HasNoBadInitialiser u end → refused_by code (refusals u end) ≡ places rule nothing_seen (text u)
+
+-- an event of the list at which the rule refuses that place, given what is visible after the events before it
+pub record Breaks (rule : Rule) (m : Sight) (es : List Event) (p : Pos) : Type 0 where
+  pub front : List Event
+  pub event : Event
+  pub rest : List Event
+  pub is : es ≡ front ++ event ∷ rest
+  pub at : rule (after m front) event ≡ Some p
+
+-- the same, place by place: one is refused with the code exactly where an event of the text breaks the rule there
+abbrev pub IsExact : ℕ → Rule → Type 0
+IsExact code rule = (u : Source) (end : Pos) → HasNoBadInitialiser u end → (p : Pos) →
+    (Contains (refusals u end) (fault code p) → Breaks rule nothing_seen (text u) p) × (Breaks rule nothing_seen (text u) p → Contains (refusals u end) (fault code p))
+
+-- 22: the text has no main with the clock loop that gives void or int; it is refused where it ends
+abbrev pub no_main : Source → Pos → List Pos
+no_main u end = if (after nothing_seen (text u)).entry then [] else (end ∷ [])
+
+abbrev pub IsMissingMain : Type 0
+IsMissingMain = (u : Source) (end : Pos) → HasNoBadInitialiser u end → refused_by 22 (refusals u end) ≡ no_main u end

@@ -1,0 +1,47 @@
+-- Values of constant expressions, given the visible names: literals with operators and casts between them, and brackets.
+use Rattle.std.specs.Prelude.{Option, Some, None}
+use Rattle.sa_base.specs.declared.num.Num.{Num}
+use Rattle.sa_syntax.specs.declared.decl.Base as base
+use Rattle.sa_syntax.specs.declared.expr.Expr.{Expr, Number, Place', Bracket', Prefix', Cast', Chain', Choice', end_of-Expr, more_of-Expr, Row_of-Link, end_of-Link, more_of-Link, more_of-Specifiers, end_of-Specifiers}
+use Rattle.sa_typed.specs.Arithmetic.{literal_type}
+use Rattle.sa_typed.specs.declared.expr.Operator.{Operator}
+use Rattle.sa_typer.specs.declared.constant.Value.{Value}
+use Rattle.sa_typer.specs.declared.constant.Value.TheVariants.{Varies}
+use Rattle.sa_typer.specs.Operands.{prefix_of, operator_of}
+use Rattle.sa_typer.specs.Scopes.{Scope, meaning_of}
+use Rattle.sa_typer.specs.Types.{num_of}
+use Rattle.sa_typer.specs.Values.{literal_value, prefix_value, cast_value, miscast_value, operator_value}
+use Rattle.sa_rules.specs.Sight.{Kind, Number as number, alias_kind}
+
+abbrev pub number_kind : Kind → Option Num
+number_kind (number num) = Some num
+number_kind _ = None
+
+-- the whole-number type that stands in a cast, where it is one
+abbrev pub cast_type : Scope (Option Kind) → base.Base → Option Num
+cast_type names (base.Scalar ws) = num_of ws
+cast_type names (base.Named x) = number_kind (alias_kind (meaning_of names x.text))
+cast_type names _ = None
+
+abbrev pub cast_as : Option Num → Value → Value
+cast_as None v = miscast_value v
+cast_as (Some num) v = cast_value num v
+
+abbrev pub linked_value : Option Operator → Value → Value → Value
+linked_value None a b = Varies
+linked_value (Some op) a b = operator_value op a b
+
+unfoldable mutual
+  pub value_of : Scope (Option Kind) → Expr → Value
+  value_of names (Number v unsigned longs decimal p) = literal_value (literal_type v unsigned longs decimal) v
+  value_of names (Place' b n row) = Varies
+  value_of names (Bracket' p n (more_of-Expr x end_of-Expr)) = value_of names x
+  value_of names (Prefix' op p n (more_of-Expr x end_of-Expr)) = prefix_value (prefix_of op) (value_of names x)
+  value_of names (Cast' p m (more_of-Specifiers q qs b end_of-Specifiers) n (more_of-Expr x end_of-Expr)) = cast_as (cast_type names b) (value_of names x)
+  value_of names (Chain' m (more_of-Expr x end_of-Expr) n row) = chain_value names row (value_of names x)
+  value_of names (Choice' l x p m y n z) = Varies
+
+  -- a chain groups to the left
+  pub chain_value : {n : _} → Scope (Option Kind) → Row_of-Link n → Value → Value
+  chain_value names end_of-Link v = v
+  chain_value names (more_of-Link op p x rest) v = chain_value names rest (linked_value (operator_of op) v (value_of names x))
