@@ -1,3 +1,4 @@
+-- No promise of the top calls rests on this page: it is for laws beside them, for proofs and for inner functions.
 -- What the answer to a text says of its refusals.
 use Rattle.std.specs.Prelude.{◌≡◌, ◌⊎◌, ◌↔◌, []}
 use Rattle.sa_base.specs.declared.pos.Pos.{Pos}
