@@ -120,9 +120,13 @@ pub slot_answer : (i : Init) (p : Pos) (shape inner : Shape) (k : ℕ) (zs : Lis
 slot_answer i p shape inner k zs s t (Ok v) h w = given_slot i p shape inner k zs s t v (sym h) w
 slot_answer i p shape inner k zs s t (Err o) h w = tt
 
-pub item_answer : (p : Pos) (num : Num) (x : Operand) (zs : List ℤ) (s t : Typer) (z : ℤ) (r : Result Values OutOfMemory) → item p num x s ≡ Gives z t → IfOk r (λ v. Stands v (zs ++ z ∷ [])) → GivesValues (valued p (form.Scalar num) x zs s) r t
-item_answer p num x zs s t z (Ok v) h g = given_item p num x zs s t z v h g
-item_answer p num x zs s t z (Err o) h g = tt
+scalar_answer : (p : Pos) (num : Num) (x : Operand) (zs : List ℤ) (s t : Typer) (z : ℤ) (r : Result Values OutOfMemory) → item p num x s ≡ Gives z t → IfOk r (λ v. Stands v (zs ++ z ∷ [])) → GivesValues (valued p (form.Scalar num) x zs s) r t
+scalar_answer p num x zs s t z (Ok v) h g = given_item p num x zs s t z v h g
+scalar_answer p num x zs s t z (Err o) h g = tt
+
+pub item_answer : (p : Pos) (f : Form) (num : Num) (x : Operand) (zs : List ℤ) (s t : Typer) (z : ℤ) (r : Result Values OutOfMemory) → f ≡ form.Scalar num → item p num x s ≡ Gives z t → IfOk r (λ v. Stands v (zs ++ z ∷ [])) →
+    GivesValues (valued p f x zs s) r t
+item_answer p f num x zs s t z r e h g = subst (λ (f : Form). GivesValues (valued p f x zs s) r t) (sym e) (scalar_answer p num x zs s t z r h g)
 
 pub refused_answer : (p : Pos) (zs : List ℤ) (s t : Typer) (v : Values) → refuse 20 p s ≡ Gives tt t → Stands v zs → IsGiven (Gives zs (refused 20 p s)) v t
 refused_answer p zs s t v h g = record { values = zs; is = let ends : refused 20 p s ≡ t = cc in ap (λ (u : Typer). Gives zs u) ends; stands = g }
