@@ -14,7 +14,7 @@ use Rattle.sa_tokens.specs.Lexed.{IsLexed, IsRefused, HasTooMany, end_pos}
 use Rattle.sa_tokens.proofs.ReadingLemmas.{each_has_one_answer}
 use Rattle.sa_syntax.specs.declared.unit.Unit.{Unit as Source}
 use Rattle.sa_syntax.specs.Statements.{Tree}
-use Rattle.sa_syntax.specs.Refusals.{IsSource, HasNoTree, Begins, BeginsNone, IsRefused, FailsAt, place_at, most_open}
+use Rattle.sa_syntax.specs.Refusals.{IsSource, HasNoTree, Begins, BeginsNone, IsRefused as IsStopped, FailsAt, place_at, most_open}
 use Rattle.sa_syntax.proofs.UnitComplete.{one-tree}
 use Rattle.sa_parser.specs.declared.fault.ParseFault.TheVariants.{Syntax, TooDeep}
 use Rattle.sa_parser.specs.Faults.{IsFault}
@@ -63,7 +63,7 @@ fronts (x ∷ b) (y ∷ c) us vs e =
     let rest : b ++ us ≡ c ++ vs = cc in
     subst (λ z. Fronts (x ∷ b) (z ∷ c) us vs) same (next_fronts x b c us vs (fronts b c us vs rest))
 
-refused-longer : (b : List Token) (t : Token) (d us rest : List Token) → rest ≡ t ∷ (d ++ us) → Begins (b ++ t ∷ d) → IsRefused b rest → ⊥
+refused-longer : (b : List Token) (t : Token) (d us rest : List Token) → rest ≡ t ∷ (d ++ us) → Begins (b ++ t ∷ d) → IsStopped b rest → ⊥
 refused-longer b t d us [] e g h = cc
 refused-longer b t d us (x ∷ rest) e g h = let same : x ≡ t = cc in longer b t us d rest g (subst (λ z. BeginsNone (b ++ z ∷ [])) same h)
 
