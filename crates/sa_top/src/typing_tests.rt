@@ -60,7 +60,7 @@ fn program_of(alloc: Global, source: &[u8]) -> Result<Program, Outcome> {
     }
 }
 
-fn outcome(alloc: Global, source: &[u8]) -> Outcome {
+fn outcome_of(alloc: Global, source: &[u8]) -> Outcome {
     match program_of(alloc, source) {
         Ok(_) => Typed,
         Err(other) => other,
@@ -179,7 +179,7 @@ fn what_is_declared(rt: HostRuntime) -> Result<(), Fail> {
     ];
     for (text, wanted) in cases {
         let source = row(alloc, [(text, 1), (MAIN, 1)].as_slice())?;
-        assert_eq!(rt; outcome(alloc, &source), wanted, "{text}");
+        assert_eq!(rt; outcome_of(alloc, &source), wanted, "{text}");
     }
     Ok(())
 }
@@ -271,7 +271,7 @@ fn what_stands_in_main(rt: HostRuntime) -> Result<(), Fail> {
             ]
             .as_slice(),
         )?;
-        assert_eq!(rt; outcome(alloc, &source), wanted, "{text}");
+        assert_eq!(rt; outcome_of(alloc, &source), wanted, "{text}");
     }
     Ok(())
 }
@@ -309,7 +309,7 @@ fn what_follows_the_clock_loop(rt: HostRuntime) -> Result<(), Fail> {
             ]
             .as_slice(),
         )?;
-        assert_eq!(rt; outcome(alloc, &source), wanted, "{text}");
+        assert_eq!(rt; outcome_of(alloc, &source), wanted, "{text}");
     }
     Ok(())
 }
@@ -348,7 +348,7 @@ fn the_end_and_the_cells(rt: HostRuntime) -> Result<(), Fail> {
         ),
     ];
     for (text, wanted) in cases {
-        assert_eq!(rt; outcome(alloc, text.as_bytes()), wanted, "{text}");
+        assert_eq!(rt; outcome_of(alloc, text.as_bytes()), wanted, "{text}");
     }
     Ok(())
 }
@@ -459,7 +459,7 @@ fn how_large_texts_are_typed(rt: HostRuntime) -> Result<(), Fail> {
     ];
     for (pieces, wanted) in cases {
         let source = row(alloc, pieces)?;
-        assert_eq!(rt; outcome(alloc, &source), wanted);
+        assert_eq!(rt; outcome_of(alloc, &source), wanted);
     }
     Ok(())
 }
@@ -479,7 +479,7 @@ fn how_nested_structures_are_typed(rt: HostRuntime) -> Result<(), Fail> {
         source.extend_from_slice(text.as_bytes())?;
     }
     source.extend_from_slice(MAIN.as_bytes())?;
-    assert_eq!(rt; outcome(alloc, &source), Typed);
+    assert_eq!(rt; outcome_of(alloc, &source), Typed);
     Ok(())
 }
 
