@@ -194,25 +194,4 @@ mod tests {
         assert_eq!(rt; high.bound(0, 0), Some(0));
         Ok(())
     }
-
-    #[test]
-    fn closes_eight_variables(rt: HostRuntime) -> Result<(), Fail> {
-        let mut m = Matrix::top(rt.alloc(), 8)?;
-        // the first is at most 3, and each next one at most the one before and 1
-        m.tighten(1, 0, 6);
-        m.tighten(0, 2, 1);
-        m.tighten(2, 4, 1);
-        m.tighten(4, 6, 1);
-        m.tighten(6, 8, 1);
-        m.tighten(8, 10, 1);
-        m.tighten(10, 12, 1);
-        m.tighten(12, 14, 1);
-        let mut none = m.copy(rt.alloc())?;
-        assert_eq!(rt; m.close(), Closing::Closed);
-        assert_eq!(rt; (m.bound(0, 14), m.bound(15, 14)), (Some(7), Some(20)));
-        // the last is at least 11
-        none.tighten(14, 15, -22);
-        assert_eq!(rt; none.close(), Closing::Empty);
-        Ok(())
-    }
 }
