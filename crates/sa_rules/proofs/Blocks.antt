@@ -17,22 +17,22 @@ use Rattle.sa_typed.specs.declared.expr.Expr.{Expr}
 use Rattle.sa_typed.specs.declared.expr.Operator.{Operator}
 use Rattle.sa_typed.specs.declared.stmt.Stmt.{Stmt}
 use Rattle.sa_typer.specs.declared.bodies.Body.{Body}
-use Rattle.sa_typer.specs.declared.form.Form.{Form}
-use Rattle.sa_typer.specs.declared.form.Form.TheVariants as form
-use Rattle.sa_typer.specs.declared.operand.Operand.{Operand}
-use Rattle.sa_typer.specs.declared.operand.Operand.TheVariants as a
-use Rattle.sa_typer.specs.declared.operand.Sort.{Sort}
-use Rattle.sa_typer.specs.declared.operand.Sort.TheVariants as sort
-use Rattle.sa_typer.specs.declared.operand.Spot.{Spot}
-use Rattle.sa_typer.specs.declared.typer.Typer.{Typer}
+use Rattle.sa_scopes.specs.declared.form.Form.{Form}
+use Rattle.sa_scopes.specs.declared.form.Form.TheVariants as form
+use Rattle.sa_operands.specs.declared.operand.Operand.{Operand}
+use Rattle.sa_operands.specs.declared.operand.Operand.TheVariants as a
+use Rattle.sa_operands.specs.declared.operand.Sort.{Sort}
+use Rattle.sa_operands.specs.declared.operand.Sort.TheVariants as sort
+use Rattle.sa_operands.specs.declared.operand.Spot.{Spot}
+use Rattle.sa_scopes.specs.declared.typer.Typer.{Typer}
 use Rattle.sa_typer.specs.Bodies as body
 use Rattle.sa_typer.specs.Bodies.{block, no_body, main_by, main_item, main_items, main_block, clock_loop}
-use Rattle.sa_typer.specs.First.{place_pos, item_pos}
-use Rattle.sa_typer.specs.Operands.{is_object}
-use Rattle.sa_typer.specs.Places.{access, form_at}
-use Rattle.sa_typer.specs.Scopes.{Scope, is_some, oldest, count}
+use Rattle.sa_scopes.specs.First.{place_pos, item_pos}
+use Rattle.sa_operands.specs.Operands.{is_object}
+use Rattle.sa_operands.specs.Places.{access, form_at}
+use Rattle.sa_scopes.specs.Scopes.{Scope, is_some, oldest, count}
 use Rattle.sa_typer.specs.Statements.{to_number, to_struct, to_form, assigned, compound_of, turn_of, one as just_one, sort_by, compounded_number, compounded_by, compounded, left_side, simple, left_scope, scoped, directive, stmt, items, item}
-use Rattle.sa_typer.specs.Typing.{Typed, Typing, Gives, and_then, each, refuse_if, fault}
+use Rattle.sa_scopes.specs.Typing.{Typed, Typing, Gives, and_then, each, refuse_if, fault}
 use Rattle.sa_rules.specs.Events.{Event, Begins, Ends}
 use Rattle.sa_rules.specs.Sight.{Kind, Open, Block, see, left}
 use Rattle.sa_rules.specs.Texts.{in_place, in_simple, in_directive, in_stmt, in_items, in_item, in_loop_or_item, stray_if, in_main, has_loop}

@@ -14,32 +14,32 @@ use Rattle.sa_typed.specs.Arithmetic.{literal_type}
 use Rattle.sa_typed.specs.declared.expr.Expr.{Expr}
 use Rattle.sa_typed.specs.declared.expr.Operator.{Operator}
 use Rattle.sa_typed.specs.declared.expr.Prefix.{Prefix}
-use Rattle.sa_typer.specs.declared.constant.Value.{Value}
-use Rattle.sa_typer.specs.declared.constant.Value.TheVariants as v
-use Rattle.sa_typer.specs.declared.form.Form.{Form}
-use Rattle.sa_typer.specs.declared.form.Form.TheVariants as form
-use Rattle.sa_typer.specs.declared.operand.Left.{Left}
-use Rattle.sa_typer.specs.declared.operand.Spot.{Spot}
-use Rattle.sa_typer.specs.declared.operand.Operand.{Operand}
-use Rattle.sa_typer.specs.declared.operand.Operand.TheVariants as a
-use Rattle.sa_typer.specs.declared.operand.Sort.{Sort}
-use Rattle.sa_typer.specs.declared.operand.Sort.TheVariants as sort
-use Rattle.sa_typer.specs.declared.typer.Typer.{Typer}
-use Rattle.sa_typer.specs.declared.types.Element.{Element}
-use Rattle.sa_typer.specs.declared.types.Element.TheVariants as el
-use Rattle.sa_typer.specs.declared.types.Named as named
-use Rattle.sa_typer.specs.declared.types.Named.TheVariants as n
-use Rattle.sa_typer.specs.declared.types.Tagged.{Tagged}
-use Rattle.sa_typer.specs.declared.types.Tagged.TheVariants as t
-use Rattle.sa_typer.specs.Definitions as def
-use Rattle.sa_typer.specs.Definitions.{no_fields}
-use Rattle.sa_typer.specs.Expressions.{expr, links, base_type, structure}
-use Rattle.sa_typer.specs.Operands.{known_value, literal, prefix_of, prefixed, cast, cast_to, miscast, operator_of, left_of, some_left, linked, linked_by, chained}
-use Rattle.sa_typer.specs.Places as place
-use Rattle.sa_typer.specs.Scopes.{Scope, meaning_of}
-use Rattle.sa_typer.specs.Types.{num_of, scalar, defined, tagged, type_name, alias, not_void, object}
-use Rattle.sa_typer.specs.Typing.{Typed, Typing, Gives, and_then}
-use Rattle.sa_typer.specs.Values.{literal_value, prefix_value, operator_value}
+use Rattle.sa_scopes.specs.declared.constant.Value.{Value}
+use Rattle.sa_scopes.specs.declared.constant.Value.TheVariants as v
+use Rattle.sa_scopes.specs.declared.form.Form.{Form}
+use Rattle.sa_scopes.specs.declared.form.Form.TheVariants as form
+use Rattle.sa_operands.specs.declared.operand.Left.{Left}
+use Rattle.sa_operands.specs.declared.operand.Spot.{Spot}
+use Rattle.sa_operands.specs.declared.operand.Operand.{Operand}
+use Rattle.sa_operands.specs.declared.operand.Operand.TheVariants as a
+use Rattle.sa_operands.specs.declared.operand.Sort.{Sort}
+use Rattle.sa_operands.specs.declared.operand.Sort.TheVariants as sort
+use Rattle.sa_scopes.specs.declared.typer.Typer.{Typer}
+use Rattle.sa_scopes.specs.declared.types.Element.{Element}
+use Rattle.sa_scopes.specs.declared.types.Element.TheVariants as el
+use Rattle.sa_scopes.specs.declared.types.Named as named
+use Rattle.sa_scopes.specs.declared.types.Named.TheVariants as n
+use Rattle.sa_scopes.specs.declared.types.Tagged.{Tagged}
+use Rattle.sa_scopes.specs.declared.types.Tagged.TheVariants as t
+use Rattle.sa_operands.specs.Definitions as def
+use Rattle.sa_operands.specs.Definitions.{no_fields}
+use Rattle.sa_operands.specs.Expressions.{expr, links, base_type, structure}
+use Rattle.sa_operands.specs.Operands.{known_value, literal, prefix_of, prefixed, cast, cast_to, miscast, operator_of, left_of, some_left, linked, linked_by, chained}
+use Rattle.sa_operands.specs.Places as place
+use Rattle.sa_scopes.specs.Scopes.{Scope, meaning_of}
+use Rattle.sa_scopes.specs.Types.{num_of, scalar, defined, tagged, type_name, alias, not_void, object}
+use Rattle.sa_scopes.specs.Typing.{Typed, Typing, Gives, and_then}
+use Rattle.sa_scopes.specs.Values.{literal_value, prefix_value, operator_value}
 use Rattle.sa_rules.specs.Sight.{Kind, alias_kind}
 use Rattle.sa_rules.specs.Values.{number_kind, cast_type, cast_as, linked_value, value_of, chain_value}
 use Rattle.sa_rules.proofs.KeptNames.{Keeps, qualifiers_kept, opened_kept, closed_kept, first_kept, begins_kept, steps_kept, fields_kept, scalar_kept, tagged_kept, not_void_by}

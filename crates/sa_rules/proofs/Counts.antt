@@ -7,8 +7,8 @@ use Rattle.std.specs.Prelude.{if◌then◌else◌, ◌==◌}
 use Rattle.sa_base.specs.declared.pos.Pos.{Pos}
 use Rattle.sa_syntax.specs.declared.unit.Unit.{Unit as Source}
 use Rattle.sa_typer.specs.declared.bodies.Entry.{Entry}
-use Rattle.sa_typer.specs.declared.typer.Fault.{Fault}
-use Rattle.sa_typer.specs.Typing.{Typed, Gives, fault}
+use Rattle.sa_scopes.specs.declared.typer.Fault.{Fault}
+use Rattle.sa_scopes.specs.Typing.{Typed, Gives, fault}
 use Rattle.sa_typer.specs.Units as unit
 use Rattle.sa_typer.specs.Units.{has_entry, all_items, refusals}
 use Rattle.sa_rules.specs.Events.{Event}

@@ -24,23 +24,23 @@ use Rattle.sa_typed.specs.Arithmetic.{is_of}
 use Rattle.sa_typed.specs.declared.program.Home.TheVariants as home
 use Rattle.sa_typed.specs.declared.shape.Shape.{Shape}
 use Rattle.sa_typed.specs.declared.stmt.Stmt.{Stmt}
-use Rattle.sa_typer.specs.declared.form.Form.{Form}
-use Rattle.sa_typer.specs.declared.form.Form.TheVariants as form
-use Rattle.sa_typer.specs.declared.operand.Operand.{Operand}
-use Rattle.sa_typer.specs.declared.typer.Typer.{Typer}
-use Rattle.sa_typer.specs.declared.types.Element.{Element}
-use Rattle.sa_typer.specs.declared.types.Element.TheVariants as el
-use Rattle.sa_typer.specs.declared.types.Ty.{Ty}
-use Rattle.sa_typer.specs.Declarations.{initial, global_by, global, next_global, declared, input_type, input_by, are_bare, is_struct, begun_with, begun_by, begun, local_of, next_local, local}
-use Rattle.sa_typer.specs.Expressions.{expr}
-use Rattle.sa_typer.specs.First.{expr_pos, init_pos}
-use Rattle.sa_typer.specs.Forms.{form_of}
-use Rattle.sa_typer.specs.Initialisers.{item, within, valued, slotted, init, braced, values}
-use Rattle.sa_typer.specs.Operands.{sort_of, is_object, known_value, no_object}
-use Rattle.sa_typer.specs.Structures.{slot}
-use Rattle.sa_typer.specs.Types.{qualifier, qualifiers, is_misplaced, has_volatile, shape_of}
-use Rattle.sa_typer.specs.Values.{constant}
-use Rattle.sa_typer.specs.Typing.{Typing, Gives, and_then, each, refused, refuse_if, fault}
+use Rattle.sa_scopes.specs.declared.form.Form.{Form}
+use Rattle.sa_scopes.specs.declared.form.Form.TheVariants as form
+use Rattle.sa_operands.specs.declared.operand.Operand.{Operand}
+use Rattle.sa_scopes.specs.declared.typer.Typer.{Typer}
+use Rattle.sa_scopes.specs.declared.types.Element.{Element}
+use Rattle.sa_scopes.specs.declared.types.Element.TheVariants as el
+use Rattle.sa_scopes.specs.declared.types.Ty.{Ty}
+use Rattle.sa_declarations.specs.Declarations.{initial, global_by, global, next_global, declared, input_type, input_by, are_bare, is_struct, begun_with, begun_by, begun, local_of, next_local, local}
+use Rattle.sa_operands.specs.Expressions.{expr}
+use Rattle.sa_scopes.specs.First.{expr_pos, init_pos}
+use Rattle.sa_scopes.specs.Forms.{form_of}
+use Rattle.sa_declarations.specs.Initialisers.{item, within, valued, slotted, init, braced, values}
+use Rattle.sa_operands.specs.Operands.{sort_of, is_object, known_value, no_object}
+use Rattle.sa_scopes.specs.Structures.{slot}
+use Rattle.sa_scopes.specs.Types.{qualifier, qualifiers, is_misplaced, has_volatile, shape_of}
+use Rattle.sa_scopes.specs.Values.{constant}
+use Rattle.sa_scopes.specs.Typing.{Typing, Gives, and_then, each, refused, refuse_if, fault}
 use Rattle.sa_rules.specs.Events.{Event, Misplaced, Volatile_before_bare, Initial, Declares}
 use Rattle.sa_rules.specs.Rules.{place_of, refused_by, at_if}
 use Rattle.sa_rules.specs.Sight.{Kind, Open, see, is_structure}

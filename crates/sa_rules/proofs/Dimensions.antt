@@ -2,19 +2,19 @@
 use Rattle.std.proofs.Common.{◌≡◌, ℕ, Bool, true, false, List, [], ◌∷◌, ◌++◌, refl, sym, ap, ◌∙◌, Option}
 use Rattle.std.specs.Prelude.{unsigned_abs, if◌then◌else◌}
 use Rattle.sa_syntax.specs.declared.expr.Expr.{Expr}
-use Rattle.sa_typer.specs.declared.constant.Value.{Value}
-use Rattle.sa_typer.specs.declared.constant.Value.TheVariants as v
-use Rattle.sa_typer.specs.declared.operand.Operand.{Operand}
-use Rattle.sa_typer.specs.declared.typer.Fault.{Fault}
-use Rattle.sa_typer.specs.declared.typer.Typer.{Typer}
-use Rattle.sa_typer.specs.Constants.{Constant}
-use Rattle.sa_typer.specs.Definitions.{is_dimension, dimension_by, dimension}
-use Rattle.sa_typer.specs.Expressions.{expr}
-use Rattle.sa_typer.specs.First.{expr_pos}
-use Rattle.sa_typer.specs.Operands.{known_value, no_object}
-use Rattle.sa_typer.specs.Scopes.{Scope}
-use Rattle.sa_typer.specs.Typing.{and_then, pure, refuse, fault, ◌>>◌}
-use Rattle.sa_typer.specs.Values.{constant}
+use Rattle.sa_scopes.specs.declared.constant.Value.{Value}
+use Rattle.sa_scopes.specs.declared.constant.Value.TheVariants as v
+use Rattle.sa_operands.specs.declared.operand.Operand.{Operand}
+use Rattle.sa_scopes.specs.declared.typer.Fault.{Fault}
+use Rattle.sa_scopes.specs.declared.typer.Typer.{Typer}
+use Rattle.sa_scopes.specs.Constants.{Constant}
+use Rattle.sa_operands.specs.Definitions.{is_dimension, dimension_by, dimension}
+use Rattle.sa_operands.specs.Expressions.{expr}
+use Rattle.sa_scopes.specs.First.{expr_pos}
+use Rattle.sa_operands.specs.Operands.{known_value, no_object}
+use Rattle.sa_scopes.specs.Scopes.{Scope}
+use Rattle.sa_scopes.specs.Typing.{and_then, pure, refuse, fault, ◌>>◌}
+use Rattle.sa_scopes.specs.Values.{constant}
 use Rattle.sa_rules.specs.Events.{Dimension, Initial}
 use Rattle.sa_rules.specs.Rules.{at_unless, unless_known, out_of_range}
 use Rattle.sa_rules.specs.Sight.{Kind, Open, Sight, see}

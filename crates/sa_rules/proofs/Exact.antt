@@ -5,8 +5,8 @@ use Rattle.std.proofs.lemmas.List.Elements.{Contains-append_left, Contains-appen
 use Rattle.std.specs.List.{Contains, cons_option}
 use Rattle.std.specs.Prelude.{◌==◌}
 use Rattle.sa_base.specs.declared.pos.Pos.{Pos}
-use Rattle.sa_typer.specs.declared.typer.Fault.{Fault}
-use Rattle.sa_typer.specs.Typing.{fault}
+use Rattle.sa_scopes.specs.declared.typer.Fault.{Fault}
+use Rattle.sa_scopes.specs.Typing.{fault}
 use Rattle.sa_rules.specs.Events.{Event}
 use Rattle.sa_rules.specs.Rules.{Rule, with_place, places, at_if, refused_by, Breaks, IsRule, IsExact}
 use Rattle.sa_rules.specs.Sight.{Sight, nothing_seen, see, after}

@@ -13,30 +13,30 @@ use Rattle.sa_syntax.specs.declared.expr.Expr.{Expr, Number, Place', Bracket', P
 use Rattle.sa_syntax.specs.declared.expr.PlaceBase.{PlaceBase}
 use Rattle.sa_syntax.specs.declared.expr.PlaceBase.TheVariants as place
 use Rattle.sa_syntax.specs.declared.expr.Step.{Step, Index', Field, Arrow}
-use Rattle.sa_typer.specs.declared.constant.Value.{Value}
-use Rattle.sa_typer.specs.declared.constant.Value.TheVariants as v
-use Rattle.sa_typer.specs.declared.operand.Left.{Left}
-use Rattle.sa_typer.specs.declared.operand.Operand.{Operand}
-use Rattle.sa_typer.specs.declared.operand.Spot.{Spot}
-use Rattle.sa_typer.specs.declared.structs.Fields.{Fields}
-use Rattle.sa_typer.specs.declared.typer.Typer.{Typer}
-use Rattle.sa_typer.specs.declared.types.Element.{Element}
-use Rattle.sa_typer.specs.declared.types.Element.TheVariants as el
-use Rattle.sa_typer.specs.declared.types.Named as named
-use Rattle.sa_typer.specs.declared.types.Named.TheVariants as n
-use Rattle.sa_typer.specs.declared.types.Tagged.{Tagged}
-use Rattle.sa_typer.specs.declared.types.Tagged.TheVariants as t
-use Rattle.sa_typer.specs.declared.types.Ty.{Ty}
-use Rattle.sa_typer.specs.Definitions as def
-use Rattle.sa_typer.specs.Definitions.{no_fields}
-use Rattle.sa_typer.specs.Expressions.{expr, links, steps, step, base_type, structure, fields, field, declrs, declr, bounds, beside_first}
-use Rattle.sa_typer.specs.First.{expr_pos}
-use Rattle.sa_typer.specs.Operands.{prefix_of, left_of, known_value}
-use Rattle.sa_typer.specs.Places.{root_by, pointed_by, begins}
-use Rattle.sa_typer.specs.Scopes.{meaning_of, is_visible, with_name, count}
-use Rattle.sa_typer.specs.Types.{num_of, qualifier, qualifiers, is_misplaced, scalar, defined, tagged, type_name, not_void, object}
-use Rattle.sa_typer.specs.Typing.{Typed, Typing, Gives, and_then, each, pure, refuse, refused, refuse_if, ◌>>◌}
-use Rattle.sa_typer.specs.Values.{constant}
+use Rattle.sa_scopes.specs.declared.constant.Value.{Value}
+use Rattle.sa_scopes.specs.declared.constant.Value.TheVariants as v
+use Rattle.sa_operands.specs.declared.operand.Left.{Left}
+use Rattle.sa_operands.specs.declared.operand.Operand.{Operand}
+use Rattle.sa_operands.specs.declared.operand.Spot.{Spot}
+use Rattle.sa_scopes.specs.declared.structs.Fields.{Fields}
+use Rattle.sa_scopes.specs.declared.typer.Typer.{Typer}
+use Rattle.sa_scopes.specs.declared.types.Element.{Element}
+use Rattle.sa_scopes.specs.declared.types.Element.TheVariants as el
+use Rattle.sa_scopes.specs.declared.types.Named as named
+use Rattle.sa_scopes.specs.declared.types.Named.TheVariants as n
+use Rattle.sa_scopes.specs.declared.types.Tagged.{Tagged}
+use Rattle.sa_scopes.specs.declared.types.Tagged.TheVariants as t
+use Rattle.sa_scopes.specs.declared.types.Ty.{Ty}
+use Rattle.sa_operands.specs.Definitions as def
+use Rattle.sa_operands.specs.Definitions.{no_fields}
+use Rattle.sa_operands.specs.Expressions.{expr, links, steps, step, base_type, structure, fields, field, declrs, declr, bounds, beside_first}
+use Rattle.sa_scopes.specs.First.{expr_pos}
+use Rattle.sa_operands.specs.Operands.{prefix_of, left_of, known_value}
+use Rattle.sa_operands.specs.Places.{root_by, pointed_by, begins}
+use Rattle.sa_scopes.specs.Scopes.{meaning_of, is_visible, with_name, count}
+use Rattle.sa_scopes.specs.Types.{num_of, qualifier, qualifiers, is_misplaced, scalar, defined, tagged, type_name, not_void, object}
+use Rattle.sa_scopes.specs.Typing.{Typed, Typing, Gives, and_then, each, pure, refuse, refused, refuse_if, ◌>>◌}
+use Rattle.sa_scopes.specs.Values.{constant}
 use Rattle.sa_rules.proofs.Walks.{state, Quiet}
 use Rattle.sa_rules.proofs.QuietParts.{no_object_quiet, beside_quiet, prefixed_quiet, cast_quiet, linked_quiet, index_quiet, field_quiet, arrow_quiet}
 

@@ -6,19 +6,19 @@ use Rattle.sa_base.specs.declared.num.Num.{Num}
 use Rattle.sa_syntax.specs.declared.decl.Name.{Name}
 use Rattle.sa_typed.specs.declared.program.Home.{Home}
 use Rattle.sa_typed.specs.declared.shape.Shape.{Shape}
-use Rattle.sa_typer.specs.declared.structs.Fields.{Fields}
-use Rattle.sa_typer.specs.declared.typer.Typer.{Typer}
-use Rattle.sa_typer.specs.declared.types.Named as meant
-use Rattle.sa_typer.specs.declared.types.Named.TheVariants as n
-use Rattle.sa_typer.specs.declared.types.Tagged.{Tagged}
-use Rattle.sa_typer.specs.declared.types.Tagged.TheVariants as t
-use Rattle.sa_typer.specs.declared.types.Ty.{Ty}
-use Rattle.sa_typer.specs.Declarations.{named, variable, input}
-use Rattle.sa_typer.specs.Definitions as def
-use Rattle.sa_typer.specs.Definitions.{opened, is_alias, with_tag, name_or_empty}
-use Rattle.sa_typer.specs.Scopes.{Scope, index_from, meaning_of, is_some, is_visible, with_name, with_meaning, oldest, count}
-use Rattle.sa_typer.specs.Types.{shape_of}
-use Rattle.sa_typer.specs.Typing.{Gives, refused, fault}
+use Rattle.sa_scopes.specs.declared.structs.Fields.{Fields}
+use Rattle.sa_scopes.specs.declared.typer.Typer.{Typer}
+use Rattle.sa_scopes.specs.declared.types.Named as meant
+use Rattle.sa_scopes.specs.declared.types.Named.TheVariants as n
+use Rattle.sa_scopes.specs.declared.types.Tagged.{Tagged}
+use Rattle.sa_scopes.specs.declared.types.Tagged.TheVariants as t
+use Rattle.sa_scopes.specs.declared.types.Ty.{Ty}
+use Rattle.sa_declarations.specs.Declarations.{named, variable, input}
+use Rattle.sa_operands.specs.Definitions as def
+use Rattle.sa_operands.specs.Definitions.{opened, is_alias, with_tag, name_or_empty}
+use Rattle.sa_scopes.specs.Scopes.{Scope, index_from, meaning_of, is_some, is_visible, with_name, with_meaning, oldest, count}
+use Rattle.sa_scopes.specs.Types.{shape_of}
+use Rattle.sa_scopes.specs.Typing.{Gives, refused, fault}
 use Rattle.sa_rules.specs.Events.{Opens, Closes, Declares, Aliases, Member}
 use Rattle.sa_rules.specs.Rules.{at_if}
 use Rattle.sa_rules.specs.Sight as sight

@@ -4,9 +4,9 @@ use Rattle.sa_base.specs.declared.pos.Pos.{Pos}
 use Rattle.sa_syntax.specs.declared.decl.Qualified.{Qualified}
 use Rattle.sa_syntax.specs.declared.decl.Qualifier.{Qualifier}
 use Rattle.sa_syntax.specs.declared.decl.Qualifier.TheVariants.{Const, Volatile, Static}
-use Rattle.sa_typer.specs.declared.typer.Typer.{Typer}
-use Rattle.sa_typer.specs.Types.{qualifier, qualifiers, is_misplaced}
-use Rattle.sa_typer.specs.Typing.{each, refuse_if, fault}
+use Rattle.sa_scopes.specs.declared.typer.Typer.{Typer}
+use Rattle.sa_scopes.specs.Types.{qualifier, qualifiers, is_misplaced}
+use Rattle.sa_scopes.specs.Typing.{each, refuse_if, fault}
 use Rattle.sa_rules.specs.Events.{is_volatile, is_no_const, misplaced, misplaced_if}
 use Rattle.sa_rules.specs.Sight.{Sight, see}
 use Rattle.sa_rules.proofs.Walks.{Reads, quiet_gives, quiet, bind, refused_clear, refused_noted}

@@ -8,23 +8,23 @@ use Rattle.sa_syntax.specs.declared.expr.Expr as tree
 use Rattle.sa_syntax.specs.declared.expr.Operator as from
 use Rattle.sa_typed.specs.declared.expr.Expr.{Expr}
 use Rattle.sa_typed.specs.declared.expr.Prefix.{Prefix}
-use Rattle.sa_typer.specs.declared.constant.Value.{Value}
-use Rattle.sa_typer.specs.declared.form.Form.{Form}
-use Rattle.sa_typer.specs.declared.form.Form.TheVariants as form
-use Rattle.sa_typer.specs.declared.operand.Left.{Left}
-use Rattle.sa_typer.specs.declared.operand.Operand.{Operand}
-use Rattle.sa_typer.specs.declared.operand.Operand.TheVariants as a
-use Rattle.sa_typer.specs.declared.operand.Sort.{Sort}
-use Rattle.sa_typer.specs.declared.operand.Sort.TheVariants as sort
-use Rattle.sa_typer.specs.declared.operand.Spot.{Spot}
-use Rattle.sa_typer.specs.declared.structs.Member.{Member}
-use Rattle.sa_typer.specs.declared.typer.Typer.{Typer}
-use Rattle.sa_typer.specs.declared.types.Element.{Element}
-use Rattle.sa_typer.specs.declared.types.Element.TheVariants as el
-use Rattle.sa_typer.specs.Operands.{no_object, with_threshold, beside, is_comparison, by_itself, prefixed, no_number, cast, cast_to, miscast, linked, sort_of, is_object, expr_or}
-use Rattle.sa_typer.specs.Places.{index, element_of, field, field_of, to_member, arrow, is_known, form_at, indexed_with}
-use Rattle.sa_typer.specs.Structures.{member_of}
-use Rattle.sa_typer.specs.Typing.{Typing}
+use Rattle.sa_scopes.specs.declared.constant.Value.{Value}
+use Rattle.sa_scopes.specs.declared.form.Form.{Form}
+use Rattle.sa_scopes.specs.declared.form.Form.TheVariants as form
+use Rattle.sa_operands.specs.declared.operand.Left.{Left}
+use Rattle.sa_operands.specs.declared.operand.Operand.{Operand}
+use Rattle.sa_operands.specs.declared.operand.Operand.TheVariants as a
+use Rattle.sa_operands.specs.declared.operand.Sort.{Sort}
+use Rattle.sa_operands.specs.declared.operand.Sort.TheVariants as sort
+use Rattle.sa_operands.specs.declared.operand.Spot.{Spot}
+use Rattle.sa_scopes.specs.declared.structs.Member.{Member}
+use Rattle.sa_scopes.specs.declared.typer.Typer.{Typer}
+use Rattle.sa_scopes.specs.declared.types.Element.{Element}
+use Rattle.sa_scopes.specs.declared.types.Element.TheVariants as el
+use Rattle.sa_operands.specs.Operands.{no_object, with_threshold, beside, is_comparison, by_itself, prefixed, no_number, cast, cast_to, miscast, linked, sort_of, is_object, expr_or}
+use Rattle.sa_operands.specs.Places.{index, element_of, field, field_of, to_member, arrow, is_known, form_at, indexed_with}
+use Rattle.sa_scopes.specs.Structures.{member_of}
+use Rattle.sa_scopes.specs.Typing.{Typing}
 use Rattle.sa_rules.proofs.Walks.{Quiet, quiet_gives, quiet_refuses, quiet_then, quiet_unless}
 
 pub quiet_if : {A : Type 0} {s : Typer} (b : Bool) (m n : Typing A) → Quiet s (m s) → Quiet s (n s) → Quiet s ((if b then m else n) s)

@@ -8,26 +8,26 @@ use Rattle.sa_syntax.specs.declared.expr.Expr as tree
 use Rattle.sa_syntax.specs.declared.expr.Operator as from
 use Rattle.sa_typed.specs.declared.expr.Expr.{Expr}
 use Rattle.sa_typed.specs.declared.expr.Prefix.{Prefix}
-use Rattle.sa_typer.specs.declared.constant.Value.{Value}
-use Rattle.sa_typer.specs.declared.constant.Value.TheVariants as v
-use Rattle.sa_typer.specs.declared.form.Form.{Form}
-use Rattle.sa_typer.specs.declared.form.Form.TheVariants as form
-use Rattle.sa_typer.specs.declared.operand.Left.{Left}
-use Rattle.sa_typer.specs.declared.operand.Operand.{Operand}
-use Rattle.sa_typer.specs.declared.operand.Operand.TheVariants as a
-use Rattle.sa_typer.specs.declared.operand.Sort.{Sort}
-use Rattle.sa_typer.specs.declared.operand.Sort.TheVariants as sort
-use Rattle.sa_typer.specs.declared.operand.Spot.{Spot}
-use Rattle.sa_typer.specs.declared.structs.Member.{Member}
-use Rattle.sa_typer.specs.declared.typer.Typer.{Typer}
-use Rattle.sa_typer.specs.declared.types.Element.{Element}
-use Rattle.sa_typer.specs.declared.types.Element.TheVariants as el
-use Rattle.sa_typer.specs.Definitions.{is_dimension, dimension_by, dimension}
-use Rattle.sa_typer.specs.Operands.{no_object, with_threshold, beside, is_comparison, by_itself, prefixed, no_number, cast, cast_to, miscast, linked, sort_of, is_object, known_value, expr_or}
-use Rattle.sa_typer.specs.Places.{index, element_of, field, field_of, to_member, arrow, is_known, form_at, indexed_with}
-use Rattle.sa_typer.specs.Structures.{member_of}
-use Rattle.sa_typer.specs.Values.{constant}
-use Rattle.sa_typer.specs.Typing.{Gives, refused, refuse_if}
+use Rattle.sa_scopes.specs.declared.constant.Value.{Value}
+use Rattle.sa_scopes.specs.declared.constant.Value.TheVariants as v
+use Rattle.sa_scopes.specs.declared.form.Form.{Form}
+use Rattle.sa_scopes.specs.declared.form.Form.TheVariants as form
+use Rattle.sa_operands.specs.declared.operand.Left.{Left}
+use Rattle.sa_operands.specs.declared.operand.Operand.{Operand}
+use Rattle.sa_operands.specs.declared.operand.Operand.TheVariants as a
+use Rattle.sa_operands.specs.declared.operand.Sort.{Sort}
+use Rattle.sa_operands.specs.declared.operand.Sort.TheVariants as sort
+use Rattle.sa_operands.specs.declared.operand.Spot.{Spot}
+use Rattle.sa_scopes.specs.declared.structs.Member.{Member}
+use Rattle.sa_scopes.specs.declared.typer.Typer.{Typer}
+use Rattle.sa_scopes.specs.declared.types.Element.{Element}
+use Rattle.sa_scopes.specs.declared.types.Element.TheVariants as el
+use Rattle.sa_operands.specs.Definitions.{is_dimension, dimension_by, dimension}
+use Rattle.sa_operands.specs.Operands.{no_object, with_threshold, beside, is_comparison, by_itself, prefixed, no_number, cast, cast_to, miscast, linked, sort_of, is_object, known_value, expr_or}
+use Rattle.sa_operands.specs.Places.{index, element_of, field, field_of, to_member, arrow, is_known, form_at, indexed_with}
+use Rattle.sa_scopes.specs.Structures.{member_of}
+use Rattle.sa_scopes.specs.Values.{constant}
+use Rattle.sa_scopes.specs.Typing.{Gives, refused, refuse_if}
 use Rattle.sa_syntax.specs.declared.expr.PlaceBase.{PlaceBase}
 use Rattle.sa_syntax.specs.declared.expr.PlaceBase.TheVariants as base
 use Rattle.sa_syntax.specs.declared.decl.Qualified.{Qualified}
@@ -36,23 +36,23 @@ use Rattle.sa_typed.specs.declared.expr.Access.{Access}
 use Rattle.sa_typed.specs.declared.expr.Operator.{Operator}
 use Rattle.sa_typed.specs.declared.program.Home.{Home}
 use Rattle.sa_typed.specs.declared.shape.Shape.{Shape}
-use Rattle.sa_typer.specs.declared.structs.Fields.{Fields}
-use Rattle.sa_typer.specs.declared.typer.Fault.{Fault}
-use Rattle.sa_typer.specs.declared.types.Named as named
-use Rattle.sa_typer.specs.declared.types.Named.TheVariants as n
-use Rattle.sa_typer.specs.declared.types.Tagged.{Tagged}
-use Rattle.sa_typer.specs.declared.types.Tagged.TheVariants as t
-use Rattle.sa_typer.specs.declared.types.Ty.{Ty}
-use Rattle.sa_typer.specs.Declarations as decl
-use Rattle.sa_typer.specs.Declarations.{variable, input, begun_with}
-use Rattle.sa_typer.specs.Definitions as def
-use Rattle.sa_typer.specs.Initialisers.{item, within, valued}
-use Rattle.sa_typer.specs.Places.{root_by, pointed_by, begins}
-use Rattle.sa_typer.specs.Scopes.{meaning_of, is_visible}
+use Rattle.sa_scopes.specs.declared.structs.Fields.{Fields}
+use Rattle.sa_scopes.specs.declared.typer.Fault.{Fault}
+use Rattle.sa_scopes.specs.declared.types.Named as named
+use Rattle.sa_scopes.specs.declared.types.Named.TheVariants as n
+use Rattle.sa_scopes.specs.declared.types.Tagged.{Tagged}
+use Rattle.sa_scopes.specs.declared.types.Tagged.TheVariants as t
+use Rattle.sa_scopes.specs.declared.types.Ty.{Ty}
+use Rattle.sa_declarations.specs.Declarations as decl
+use Rattle.sa_declarations.specs.Declarations.{variable, input, begun_with}
+use Rattle.sa_operands.specs.Definitions as def
+use Rattle.sa_declarations.specs.Initialisers.{item, within, valued}
+use Rattle.sa_operands.specs.Places.{root_by, pointed_by, begins}
+use Rattle.sa_scopes.specs.Scopes.{meaning_of, is_visible}
 use Rattle.sa_typer.specs.Statements.{to_number, to_struct, to_form, assigned, compounded_number, compounded_by, compounded, sort_by}
-use Rattle.sa_typer.specs.Types.{qualifier, qualifiers, is_misplaced, scalar, defined, tagged, type_name, not_void}
-use Rattle.sa_typer.specs.Typing.{fault}
-use Rattle.sa_typer.specs.Places.{access}
+use Rattle.sa_scopes.specs.Types.{qualifier, qualifiers, is_misplaced, scalar, defined, tagged, type_name, not_void}
+use Rattle.sa_scopes.specs.Typing.{fault}
+use Rattle.sa_operands.specs.Places.{access}
 use Rattle.sa_rules.specs.Sites.{is_sited, of_dimension, of_item}
 use Rattle.sa_rules.proofs.SiteWalks.{Adds, Sub, sub_head, sub_rest, adds_none, adds_refusal, adds_then, adds_unless, adds_if, adds_by, adds_each}
 

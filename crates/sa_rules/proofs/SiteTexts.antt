@@ -35,21 +35,21 @@ use Rattle.sa_typed.specs.declared.shape.Shape.{Shape}
 use Rattle.sa_typed.specs.declared.stmt.Stmt.{Stmt}
 use Rattle.sa_typer.specs.declared.bodies.Body.{Body}
 use Rattle.sa_typer.specs.declared.bodies.Entry.{Entry}
-use Rattle.sa_typer.specs.declared.typer.Fault.{Fault}
-use Rattle.sa_typer.specs.declared.typer.Typer.{Typer}
-use Rattle.sa_typer.specs.declared.types.Named.TheVariants as n
-use Rattle.sa_typer.specs.declared.types.Ty.{Ty}
+use Rattle.sa_scopes.specs.declared.typer.Fault.{Fault}
+use Rattle.sa_scopes.specs.declared.typer.Typer.{Typer}
+use Rattle.sa_scopes.specs.declared.types.Named.TheVariants as n
+use Rattle.sa_scopes.specs.declared.types.Ty.{Ty}
 use Rattle.sa_typer.specs.Bodies as body
 use Rattle.sa_typer.specs.Bodies.{block, no_body, main_by, main_item, main_items, main_block, clock_loop}
-use Rattle.sa_typer.specs.Declarations.{initial, global_by, global, next_global, declared, input_type, are_bare, is_struct, begun_by, begun, local_of, next_local, local}
-use Rattle.sa_typer.specs.First.{expr_pos, init_pos, place_pos, item_pos}
-use Rattle.sa_typer.specs.Forms.{form_of}
-use Rattle.sa_typer.specs.Initialisers.{slotted, init, braced, values}
-use Rattle.sa_typer.specs.Scopes.{is_visible}
+use Rattle.sa_declarations.specs.Declarations.{initial, global_by, global, next_global, declared, input_type, are_bare, is_struct, begun_by, begun, local_of, next_local, local}
+use Rattle.sa_scopes.specs.First.{expr_pos, init_pos, place_pos, item_pos}
+use Rattle.sa_scopes.specs.Forms.{form_of}
+use Rattle.sa_declarations.specs.Initialisers.{slotted, init, braced, values}
+use Rattle.sa_scopes.specs.Scopes.{is_visible}
 use Rattle.sa_typer.specs.Statements.{compound_of, turn_of, one as just_one, left_side, simple, scoped, directive, stmt, items, item}
-use Rattle.sa_typer.specs.Structures.{slot}
-use Rattle.sa_typer.specs.Types.{has_volatile, shape_of}
-use Rattle.sa_typer.specs.Typing.{Typed, Typing, Gives, pure, fault}
+use Rattle.sa_scopes.specs.Structures.{slot}
+use Rattle.sa_scopes.specs.Types.{has_volatile, shape_of}
+use Rattle.sa_scopes.specs.Typing.{Typed, Typing, Gives, pure, fault}
 use Rattle.sa_typer.specs.Units as unit
 use Rattle.sa_typer.specs.Units.{plain_type, type_name, is_main, first_main, main, blank, has_entry, all_items, refusals}
 use Rattle.sa_rules.specs.Sites.{is_sited, of_item, of_expr, of_bound, of_place, of_specifiers, of_init, of_inits, of_start, of_global, of_local_start, of_local_declr, of_local, of_left, of_simple, of_stmt, of_items, of_block_item, of_loop_or_item, of_main_item, of_top, sites, StandAtSites}

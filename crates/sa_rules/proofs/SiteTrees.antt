@@ -12,20 +12,20 @@ use Rattle.sa_syntax.specs.declared.decl.Struct.{Struct, Struct', Row_of-Field, 
 use Rattle.sa_syntax.specs.declared.expr.Expr.{Expr, Number, Place', Bracket', Prefix', Cast', Chain', Choice', end_of-Expr, more_of-Expr, Row_of-Link, end_of-Link, more_of-Link, Row_of-Step, end_of-Step, more_of-Step, more_of-Specifiers, end_of-Specifiers}
 use Rattle.sa_syntax.specs.declared.expr.Place.{Place, out-Place}
 use Rattle.sa_syntax.specs.declared.expr.Step.{Step, Index', Field, Arrow}
-use Rattle.sa_typer.specs.declared.operand.Left.{Left}
-use Rattle.sa_typer.specs.declared.operand.Spot.{Spot}
-use Rattle.sa_typer.specs.declared.structs.Fields.{Fields}
-use Rattle.sa_typer.specs.declared.typer.Typer.{Typer}
-use Rattle.sa_typer.specs.declared.types.Ty.{Ty}
-use Rattle.sa_typer.specs.Definitions.{no_fields}
-use Rattle.sa_typer.specs.Expressions.{expr, links, steps, step, base_type, structure, fields, field, declrs, declr, bounds, beside_first}
-use Rattle.sa_typer.specs.First.{expr_pos}
-use Rattle.sa_typer.specs.Lists as list
-use Rattle.sa_typer.specs.Operands.{prefix_of, left_of}
-use Rattle.sa_typer.specs.Types.{num_of, object, whole}
-use Rattle.sa_typer.specs.Typing.{Typing}
-use Rattle.sa_typer.specs.declared.typer.Fault.{Fault}
-use Rattle.sa_typer.specs.Typing.{fault}
+use Rattle.sa_operands.specs.declared.operand.Left.{Left}
+use Rattle.sa_operands.specs.declared.operand.Spot.{Spot}
+use Rattle.sa_scopes.specs.declared.structs.Fields.{Fields}
+use Rattle.sa_scopes.specs.declared.typer.Typer.{Typer}
+use Rattle.sa_scopes.specs.declared.types.Ty.{Ty}
+use Rattle.sa_operands.specs.Definitions.{no_fields}
+use Rattle.sa_operands.specs.Expressions.{expr, links, steps, step, base_type, structure, fields, field, declrs, declr, bounds, beside_first}
+use Rattle.sa_scopes.specs.First.{expr_pos}
+use Rattle.sa_operands.specs.Lists as list
+use Rattle.sa_operands.specs.Operands.{prefix_of, left_of}
+use Rattle.sa_scopes.specs.Types.{num_of, object, whole}
+use Rattle.sa_scopes.specs.Typing.{Typing}
+use Rattle.sa_scopes.specs.declared.typer.Fault.{Fault}
+use Rattle.sa_scopes.specs.Typing.{fault}
 use Rattle.sa_rules.specs.Sites.{is_sited, of_dimension, of_expr, of_links, of_steps, of_step, of_base, of_struct, of_fields, of_field, of_declrs, of_declr, of_bounds, of_bound, of_place, of_specifiers}
 use Rattle.sa_rules.proofs.SiteWalks.{Adds, Sub, sub_left, sub_right, sub_head, adds_none, adds_then, adds_all}
 use Rattle.sa_rules.proofs.SiteParts.{dimension_adds, beside_adds, prefixed_adds, cast_adds, linked_adds, begins_adds, index_adds, field_adds, arrow_adds, scalar_adds, tagged_adds, type_name_adds, not_void_adds, qualifiers_adds, opened_adds, closed_adds, member_name_adds}

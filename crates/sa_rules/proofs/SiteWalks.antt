@@ -4,9 +4,9 @@ use Rattle.std.proofs.lemmas.List.Elements.{Contains-append_left, Contains-appen
 use Rattle.std.specs.List.{Contains, flat_map}
 use Rattle.std.specs.Prelude.{if◌then◌else◌}
 use Rattle.sa_base.specs.declared.pos.Pos.{Pos}
-use Rattle.sa_typer.specs.declared.typer.Fault.{Fault}
-use Rattle.sa_typer.specs.declared.typer.Typer.{Typer}
-use Rattle.sa_typer.specs.Typing.{Typed, Typing, Gives, and_then, each, refused, refuse_if, fault}
+use Rattle.sa_scopes.specs.declared.typer.Fault.{Fault}
+use Rattle.sa_scopes.specs.declared.typer.Typer.{Typer}
+use Rattle.sa_scopes.specs.Typing.{Typed, Typing, Gives, and_then, each, refused, refuse_if, fault}
 use Rattle.sa_rules.proofs.Exact.{head_in, rest_in}
 use Rattle.sa_rules.proofs.Walks.{state}
 

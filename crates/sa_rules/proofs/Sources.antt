@@ -11,14 +11,14 @@ use Rattle.sa_syntax.specs.declared.unit.Item.{Item}
 use Rattle.sa_syntax.specs.declared.unit.Item.TheVariants as top
 use Rattle.sa_syntax.specs.declared.unit.Unit.{Unit as Source}
 use Rattle.sa_typer.specs.declared.bodies.Entry.{Entry}
-use Rattle.sa_typer.specs.declared.typer.Typer.{Typer}
-use Rattle.sa_typer.specs.declared.types.Element.{Element}
-use Rattle.sa_typer.specs.declared.types.Element.TheVariants as el
-use Rattle.sa_typer.specs.declared.types.Named.TheVariants as n
-use Rattle.sa_typer.specs.declared.types.Ty.{Ty}
-use Rattle.sa_typer.specs.Declarations.{is_struct}
-use Rattle.sa_typer.specs.Scopes.{Scope, is_visible}
-use Rattle.sa_typer.specs.Typing.{Typed, Typing, Gives, and_then, pure, each, refused, fault}
+use Rattle.sa_scopes.specs.declared.typer.Typer.{Typer}
+use Rattle.sa_scopes.specs.declared.types.Element.{Element}
+use Rattle.sa_scopes.specs.declared.types.Element.TheVariants as el
+use Rattle.sa_scopes.specs.declared.types.Named.TheVariants as n
+use Rattle.sa_scopes.specs.declared.types.Ty.{Ty}
+use Rattle.sa_declarations.specs.Declarations.{is_struct}
+use Rattle.sa_scopes.specs.Scopes.{Scope, is_visible}
+use Rattle.sa_scopes.specs.Typing.{Typed, Typing, Gives, and_then, pure, each, refused, fault}
 use Rattle.sa_typer.specs.Units as unit
 use Rattle.sa_typer.specs.Units.{plain_type, type_name, is_main, entry, first_main, main, blank, is_entry_type, is_entry, has_entry, all_items, refusals}
 use Rattle.sa_rules.specs.Events.{Event, Aliases, Declares, Main}

@@ -9,19 +9,19 @@ use Rattle.sa_syntax.specs.declared.decl.Name.{Name}
 use Rattle.sa_syntax.specs.declared.decl.ScalarWord.{ScalarWord}
 use Rattle.sa_syntax.specs.declared.expr.PlaceBase.{PlaceBase}
 use Rattle.sa_syntax.specs.declared.expr.PlaceBase.TheVariants as base
-use Rattle.sa_typer.specs.declared.typer.Fault.{Fault}
-use Rattle.sa_typer.specs.declared.typer.Typer.{Typer}
-use Rattle.sa_typer.specs.declared.types.Element.{Element}
-use Rattle.sa_typer.specs.declared.types.Element.TheVariants as el
-use Rattle.sa_typer.specs.declared.types.Named as named
-use Rattle.sa_typer.specs.declared.types.Named.TheVariants as n
-use Rattle.sa_typer.specs.declared.types.Tagged.{Tagged}
-use Rattle.sa_typer.specs.declared.types.Tagged.TheVariants as t
-use Rattle.sa_typer.specs.declared.types.Ty.{Ty}
-use Rattle.sa_typer.specs.Places.{root_by, pointed_by, begins}
-use Rattle.sa_typer.specs.Scopes.{Scope, index_from, meaning_of, at, is_some}
-use Rattle.sa_typer.specs.Types.{num_of, scalar, defined, tagged, type_name, alias, plain, not_void}
-use Rattle.sa_typer.specs.Typing.{Typed, Gives, refused, fault}
+use Rattle.sa_scopes.specs.declared.typer.Fault.{Fault}
+use Rattle.sa_scopes.specs.declared.typer.Typer.{Typer}
+use Rattle.sa_scopes.specs.declared.types.Element.{Element}
+use Rattle.sa_scopes.specs.declared.types.Element.TheVariants as el
+use Rattle.sa_scopes.specs.declared.types.Named as named
+use Rattle.sa_scopes.specs.declared.types.Named.TheVariants as n
+use Rattle.sa_scopes.specs.declared.types.Tagged.{Tagged}
+use Rattle.sa_scopes.specs.declared.types.Tagged.TheVariants as t
+use Rattle.sa_scopes.specs.declared.types.Ty.{Ty}
+use Rattle.sa_operands.specs.Places.{root_by, pointed_by, begins}
+use Rattle.sa_scopes.specs.Scopes.{Scope, index_from, meaning_of, at, is_some}
+use Rattle.sa_scopes.specs.Types.{num_of, scalar, defined, tagged, type_name, alias, plain, not_void}
+use Rattle.sa_scopes.specs.Typing.{Typed, Gives, refused, fault}
 use Rattle.sa_rules.specs.Events.{Event, Words, Void, Tag, Named, Object, Uses, name_in}
 use Rattle.sa_rules.specs.Rules.{at_if, at_unless}
 use Rattle.sa_rules.specs.Sight as sight

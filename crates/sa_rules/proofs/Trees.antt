@@ -12,17 +12,17 @@ use Rattle.sa_syntax.specs.declared.decl.Struct.{Struct, Struct', Row_of-Field, 
 use Rattle.sa_syntax.specs.declared.expr.Expr.{Expr, Number, Place', Bracket', Prefix', Cast', Chain', Choice', end_of-Expr, more_of-Expr, Row_of-Link, end_of-Link, more_of-Link, Row_of-Step, end_of-Step, more_of-Step, more_of-Specifiers, end_of-Specifiers}
 use Rattle.sa_syntax.specs.declared.expr.Place.{Place, out-Place}
 use Rattle.sa_syntax.specs.declared.expr.Step.{Step, Index', Field, Arrow}
-use Rattle.sa_typer.specs.declared.operand.Left.{Left}
-use Rattle.sa_typer.specs.declared.operand.Spot.{Spot}
-use Rattle.sa_typer.specs.declared.structs.Fields.{Fields}
-use Rattle.sa_typer.specs.declared.typer.Typer.{Typer}
-use Rattle.sa_typer.specs.declared.types.Ty.{Ty}
-use Rattle.sa_typer.specs.Definitions.{no_fields}
-use Rattle.sa_typer.specs.Expressions.{expr, links, steps, step, base_type, structure, fields, field, declrs, declr, bounds, beside_first}
-use Rattle.sa_typer.specs.Lists as list
-use Rattle.sa_typer.specs.Operands.{prefix_of, left_of}
-use Rattle.sa_typer.specs.Types.{num_of, object, whole, qualified}
-use Rattle.sa_typer.specs.Typing.{Typed, Typing, Gives, and_then, pure}
+use Rattle.sa_operands.specs.declared.operand.Left.{Left}
+use Rattle.sa_operands.specs.declared.operand.Spot.{Spot}
+use Rattle.sa_scopes.specs.declared.structs.Fields.{Fields}
+use Rattle.sa_scopes.specs.declared.typer.Typer.{Typer}
+use Rattle.sa_scopes.specs.declared.types.Ty.{Ty}
+use Rattle.sa_operands.specs.Definitions.{no_fields}
+use Rattle.sa_operands.specs.Expressions.{expr, links, steps, step, base_type, structure, fields, field, declrs, declr, bounds, beside_first}
+use Rattle.sa_operands.specs.Lists as list
+use Rattle.sa_operands.specs.Operands.{prefix_of, left_of}
+use Rattle.sa_scopes.specs.Types.{num_of, object, whole, qualified}
+use Rattle.sa_scopes.specs.Typing.{Typed, Typing, Gives, and_then, pure}
 use Rattle.sa_rules.specs.Events.{Event, Object, in_expr, in_links, in_steps, in_step, in_base, in_struct, in_fields, in_field, in_declrs, in_declr, in_bounds, in_bound}
 use Rattle.sa_rules.specs.Sight.{Open, Braces}
 use Rattle.sa_rules.specs.Texts.{in_place, in_type, in_object}

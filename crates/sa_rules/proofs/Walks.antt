@@ -7,16 +7,16 @@ use Rattle.std.proofs.lemmas.List.Sums.{fold-append}
 use Rattle.std.specs.List.{filter, fold, flat_map}
 use Rattle.std.specs.Prelude.{if◌then◌else◌, ◌==◌, ◌||◌, map}
 use Rattle.sa_base.specs.declared.pos.Pos.{Pos}
-use Rattle.sa_typer.specs.declared.typer.Fault.{Fault}
-use Rattle.sa_typer.specs.declared.typer.Typer.{Typer}
-use Rattle.sa_typer.specs.declared.types.Element.{Element}
-use Rattle.sa_typer.specs.declared.types.Element.TheVariants as el
-use Rattle.sa_typer.specs.declared.types.Named as named
-use Rattle.sa_typer.specs.declared.types.Named.TheVariants as n
-use Rattle.sa_typer.specs.declared.types.Tagged.{Tagged}
-use Rattle.sa_typer.specs.declared.types.Tagged.TheVariants as t
-use Rattle.sa_typer.specs.Scopes.{Scope}
-use Rattle.sa_typer.specs.Typing.{Typed, Typing, Gives, and_then, each, refused, refuse_if, fault}
+use Rattle.sa_scopes.specs.declared.typer.Fault.{Fault}
+use Rattle.sa_scopes.specs.declared.typer.Typer.{Typer}
+use Rattle.sa_scopes.specs.declared.types.Element.{Element}
+use Rattle.sa_scopes.specs.declared.types.Element.TheVariants as el
+use Rattle.sa_scopes.specs.declared.types.Named as named
+use Rattle.sa_scopes.specs.declared.types.Named.TheVariants as n
+use Rattle.sa_scopes.specs.declared.types.Tagged.{Tagged}
+use Rattle.sa_scopes.specs.declared.types.Tagged.TheVariants as t
+use Rattle.sa_scopes.specs.Scopes.{Scope}
+use Rattle.sa_scopes.specs.Typing.{Typed, Typing, Gives, and_then, each, refused, refuse_if, fault}
 use Rattle.sa_rules.specs.Events.{Event}
 use Rattle.sa_rules.specs.Sight as sight
 use Rattle.sa_rules.specs.Sight.{Kind, Open, Sight, see}

@@ -4,14 +4,14 @@ use Rattle.std.specs.Prelude.{ℕ, List, [], ◌∷◌, ◌++◌, Bool, true, fa
 use Rattle.std.specs.List.{Contains, filter_map}
 use Rattle.sa_base.specs.declared.pos.Pos.{Pos}
 use Rattle.sa_syntax.specs.declared.unit.Unit.{Unit as Source}
-use Rattle.sa_typer.specs.declared.constant.Value.{Value}
-use Rattle.sa_typer.specs.declared.constant.Value.TheVariants.{Varies, Errs, Is}
-use Rattle.sa_typer.specs.declared.typer.Fault.{Fault}
-use Rattle.sa_typer.specs.Definitions.{is_dimension}
-use Rattle.sa_typer.specs.First.{expr_pos}
-use Rattle.sa_typer.specs.Scopes.{is_visible, is_some, meaning_of}
-use Rattle.sa_typer.specs.Types.{num_of}
-use Rattle.sa_typer.specs.Typing.{fault}
+use Rattle.sa_scopes.specs.declared.constant.Value.{Value}
+use Rattle.sa_scopes.specs.declared.constant.Value.TheVariants.{Varies, Errs, Is}
+use Rattle.sa_scopes.specs.declared.typer.Fault.{Fault}
+use Rattle.sa_operands.specs.Definitions.{is_dimension}
+use Rattle.sa_scopes.specs.First.{expr_pos}
+use Rattle.sa_scopes.specs.Scopes.{is_visible, is_some, meaning_of}
+use Rattle.sa_scopes.specs.Types.{num_of}
+use Rattle.sa_scopes.specs.Typing.{fault}
 use Rattle.sa_typer.specs.Units.{refusals}
 use Rattle.sa_rules.specs.Events.{Event, Misplaced, Volatile_before_bare, Words, Tag, Opens, Object, Uses, Declares, Aliases, Member, Dimension, Initial, Stray}
 use Rattle.sa_rules.specs.Sight.{Sight, nothing_seen, see, after, is_taken, is_complete, is_nothing, is_structure}

@@ -3,8 +3,8 @@ use Rattle.std.specs.Prelude.{ℕ, List, [], ◌∷◌, ◌++◌, ◌&&◌, ◌|
 use Rattle.std.specs.List.{fold}
 use Rattle.sa_base.specs.declared.num.Num.{Num}
 use Rattle.sa_syntax.specs.declared.decl.Name.{Name}
-use Rattle.sa_typer.specs.Scopes.{Scope, nothing, meaning_of, is_visible, index_from, is_some, with_name, with_meaning, oldest, count}
-use Rattle.sa_typer.specs.Types.{num_of}
+use Rattle.sa_scopes.specs.Scopes.{Scope, nothing, meaning_of, is_visible, index_from, is_some, with_name, with_meaning, oldest, count}
+use Rattle.sa_scopes.specs.Types.{num_of}
 use Rattle.sa_typer.specs.Units.{is_result}
 use Rattle.sa_rules.specs.Events.{Event, Misplaced, Volatile_before_bare, Words, Void, Tag, Named, Opens, Closes, Object, Uses, Declares, Aliases, Member, Dimension, Initial, Begins, Ends, Stray, Main}
 

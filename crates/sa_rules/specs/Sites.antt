@@ -34,10 +34,10 @@ use Rattle.sa_syntax.specs.declared.stmt.Stmt.{Stmt, Row_of-BlockItem, end_of-Bl
 use Rattle.sa_syntax.specs.declared.unit.Item.{Item}
 use Rattle.sa_syntax.specs.declared.unit.Item.TheVariants as top
 use Rattle.sa_syntax.specs.declared.unit.Unit.{Unit as Source}
-use Rattle.sa_typer.specs.declared.typer.Fault.{Fault}
+use Rattle.sa_scopes.specs.declared.typer.Fault.{Fault}
 use Rattle.sa_typer.specs.Bodies.{clock_loop}
-use Rattle.sa_typer.specs.First.{expr_pos, place_pos}
-use Rattle.sa_typer.specs.Typing.{fault}
+use Rattle.sa_scopes.specs.First.{expr_pos, place_pos}
+use Rattle.sa_scopes.specs.Typing.{fault}
 use Rattle.sa_typer.specs.Units.{refusals}
 
 -- a dimension that begins there

@@ -32,9 +32,9 @@ use Rattle.sa_syntax.specs.declared.unit.Item.{Item}
 use Rattle.sa_syntax.specs.declared.unit.Item.TheVariants as top
 use Rattle.sa_syntax.specs.declared.unit.Unit.{Unit as Source}
 use Rattle.sa_typer.specs.Bodies.{clock_loop}
-use Rattle.sa_typer.specs.Declarations.{are_bare}
-use Rattle.sa_typer.specs.First.{item_pos}
-use Rattle.sa_typer.specs.Scopes.{is_visible, is_some}
+use Rattle.sa_declarations.specs.Declarations.{are_bare}
+use Rattle.sa_scopes.specs.First.{item_pos}
+use Rattle.sa_scopes.specs.Scopes.{is_visible, is_some}
 use Rattle.sa_rules.specs.Events.{Event, Misplaced, Volatile_before_bare, Initial, Object, Uses, Declares, Aliases, Begins, Ends, Stray, Main, is_volatile, misplaced, name_in, in_expr, in_step, in_base, in_struct, in_bound}
 use Rattle.sa_rules.specs.Sight.{Sight, nothing_seen, after}
 

@@ -5,12 +5,12 @@ use Rattle.sa_syntax.specs.declared.decl.Base as base
 use Rattle.sa_syntax.specs.declared.expr.Expr.{Expr, Number, Place', Bracket', Prefix', Cast', Chain', Choice', end_of-Expr, more_of-Expr, Row_of-Link, end_of-Link, more_of-Link, more_of-Specifiers, end_of-Specifiers}
 use Rattle.sa_typed.specs.Arithmetic.{literal_type}
 use Rattle.sa_typed.specs.declared.expr.Operator.{Operator}
-use Rattle.sa_typer.specs.declared.constant.Value.{Value}
-use Rattle.sa_typer.specs.declared.constant.Value.TheVariants.{Varies}
-use Rattle.sa_typer.specs.Operands.{prefix_of, operator_of}
-use Rattle.sa_typer.specs.Scopes.{Scope, meaning_of}
-use Rattle.sa_typer.specs.Types.{num_of}
-use Rattle.sa_typer.specs.Values.{literal_value, prefix_value, cast_value, miscast_value, operator_value}
+use Rattle.sa_scopes.specs.declared.constant.Value.{Value}
+use Rattle.sa_scopes.specs.declared.constant.Value.TheVariants.{Varies}
+use Rattle.sa_operands.specs.Operands.{prefix_of, operator_of}
+use Rattle.sa_scopes.specs.Scopes.{Scope, meaning_of}
+use Rattle.sa_scopes.specs.Types.{num_of}
+use Rattle.sa_scopes.specs.Values.{literal_value, prefix_value, cast_value, miscast_value, operator_value}
 use Rattle.sa_rules.specs.Sight.{Kind, Number as number, alias_kind}
 
 abbrev pub number_kind : Kind → Option Num

@@ -1,9 +1,9 @@
 //! What typing refuses, code by code, as laws over the definition of typing.
 //!
-//! It stands on the definitions of `sa_typer` alone and has no code. `specs/Events.antt` and `specs/Texts.antt` write a text as
+//! It stands on the definitions of typing alone and has no code. `specs/Events.antt` and `specs/Texts.antt` write a text as
 //! what it does with names, tags, words of types, qualifiers and the wait, in its order; `specs/Sight.antt` says what is visible
 //! after some of it; `specs/Rules.antt` has one short rule for each code. The laws say that the refusals with a code stand
-//! exactly where its rule says. A change of what is refused changes a rule here besides the definition in `sa_typer`.
+//! exactly where its rule says. A change of what is refused changes a rule here besides the definition of typing.
 #![tactic(auto)]
 
 mod laws;

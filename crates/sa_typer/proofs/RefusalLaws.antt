@@ -6,16 +6,16 @@ use Rattle.std.specs.List.{Contains, fold}
 use Rattle.std.specs.Prelude.{if◌then◌else◌, ◌==◌, ◌&&◌, ◌||◌, nat_lt, nat_le}
 use Rattle.sa_base.specs.declared.pos.Pos.{Pos}
 use Rattle.sa_typed.specs.declared.program.Program.{Program}
-use Rattle.sa_typer.specs.declared.typer.Fault.{Fault}
-use Rattle.sa_typer.specs.Refusals.{is_before, lesser, with_fault, least_of, IsLeast}
+use Rattle.sa_scopes.specs.declared.typer.Fault.{Fault}
+use Rattle.sa_scopes.specs.Refusals.{is_before, lesser, with_fault, least_of, IsLeast}
 use Rattle.sa_typer.specs.declared.bodies.Entry.{Entry}
-use Rattle.sa_typer.specs.declared.typer.Typer.{Typer}
+use Rattle.sa_scopes.specs.declared.typer.Typer.{Typer}
 use Rattle.sa_base.specs.Numbers.{limit_number}
 use Rattle.sa_base.specs.declared.limit.Limit.TheVariants.{Cells}
 use Rattle.sa_base.specs.declared.refusal.Refusal.{Refusal}
 use Rattle.sa_typer.specs.Units.{Answer, Accepts, Refuses, TooManyCells, refusal, unless_refused, accepted_by, accepted_in, all_items, refusals, answer, cells, program}
 use Rattle.sa_typer.specs.RefusalLaws.{IsUnrefused, RefusesTheLeast, AcceptsTheRest}
-use Rattle.sa_typer.specs.Typing.{Typed, Gives}
+use Rattle.sa_scopes.specs.Typing.{Typed, Gives}
 
 pub one_more : (fs : List Fault) (f : Fault) → least_of (fs ++ f ∷ []) ≡ Some (lesser (least_of fs) f)
 one_more fs f = fold-append with_fault None fs (f ∷ [])

@@ -26,27 +26,27 @@ use Rattle.sa_typed.specs.declared.stmt.Simple.{Simple}
 use Rattle.sa_typed.specs.declared.stmt.Simple.TheVariants as simply
 use Rattle.sa_typed.specs.declared.stmt.Stmt.{Stmt}
 use Rattle.sa_typed.specs.declared.stmt.Stmt.TheVariants as typed
-use Rattle.sa_typer.specs.declared.operand.Operand.{Operand}
-use Rattle.sa_typer.specs.declared.operand.Operand.TheVariants as a
-use Rattle.sa_typer.specs.declared.operand.Root.{Root}
-use Rattle.sa_typer.specs.declared.operand.Root.TheVariants as root
-use Rattle.sa_typer.specs.declared.operand.Sort.TheVariants as sort
-use Rattle.sa_typer.specs.declared.operand.Spot.{Spot}
-use Rattle.sa_typer.specs.declared.typer.Typer.{Typer}
-use Rattle.sa_typer.specs.First.{place_pos, item_pos}
-use Rattle.sa_typer.specs.Constants.{working}
-use Rattle.sa_typer.specs.Forms.{form_by, form_inside}
-use Rattle.sa_typer.specs.Places.{access, access_of}
-use Rattle.sa_typer.specs.Expressions.{expr}
-use Rattle.sa_typer.specs.Declarations.{local}
-use Rattle.sa_typer.specs.Scopes.{Scope, oldest, count}
+use Rattle.sa_operands.specs.declared.operand.Operand.{Operand}
+use Rattle.sa_operands.specs.declared.operand.Operand.TheVariants as a
+use Rattle.sa_operands.specs.declared.operand.Root.{Root}
+use Rattle.sa_operands.specs.declared.operand.Root.TheVariants as root
+use Rattle.sa_operands.specs.declared.operand.Sort.TheVariants as sort
+use Rattle.sa_operands.specs.declared.operand.Spot.{Spot}
+use Rattle.sa_scopes.specs.declared.typer.Typer.{Typer}
+use Rattle.sa_scopes.specs.First.{place_pos, item_pos}
+use Rattle.sa_scopes.specs.Constants.{working}
+use Rattle.sa_scopes.specs.Forms.{form_by, form_inside}
+use Rattle.sa_operands.specs.Places.{access, access_of}
+use Rattle.sa_operands.specs.Expressions.{expr}
+use Rattle.sa_declarations.specs.Declarations.{local}
+use Rattle.sa_scopes.specs.Scopes.{Scope, oldest, count}
 use Rattle.sa_typer.specs.Statements.{mismatched, to_number, to_struct, to_form, assigned, compound_of, turn_of, one, sort_by, compounded_number, compounded_by, compounded, left_side, simple, left_scope, scoped, directive, stmt, items, item}
-use Rattle.sa_typer.specs.Typing.{Typed, Typing, Gives, and_then, pure, each}
-use Rattle.sa_typer.proofs.RowLaws.{AllStmts, stmts_append, access_typed, access_fixed, simple_typed, block_typed}
-use Rattle.sa_typer.proofs.WalkLaws.{Ends, Later, Well, Leads, Any, gives, refuses, refusal, bind, next, from, free, so, unless}
-use Rattle.sa_typer.proofs.OperandLaws.{IsGood, LeadsTo, GoodOperand, struct_in, one_good, works}
-use Rattle.sa_typer.proofs.PlaceLaws.{IsAt, GoodSpot, there, shaped}
-use Rattle.sa_typer.proofs.ExprLaws.{expr_leads, spot_leads}
+use Rattle.sa_scopes.specs.Typing.{Typed, Typing, Gives, and_then, pure, each}
+use Rattle.sa_operands.proofs.RowLaws.{AllStmts, stmts_append, access_typed, access_fixed, simple_typed, block_typed}
+use Rattle.sa_scopes.proofs.WalkLaws.{Ends, Later, Well, Leads, Any, gives, refuses, refusal, bind, next, from, free, so, unless}
+use Rattle.sa_operands.proofs.OperandLaws.{IsGood, LeadsTo, GoodOperand, struct_in, one_good, works}
+use Rattle.sa_operands.proofs.PlaceLaws.{IsAt, GoodSpot, there, shaped}
+use Rattle.sa_operands.proofs.ExprLaws.{expr_leads, spot_leads}
 
 pub taken : {A : Type 0} (n i : ℕ) (xs : List A) (x : A) → slice_get (take n xs) i ≡ Some x → slice_get xs i ≡ Some x
 taken zero i [] x h = h

@@ -16,11 +16,11 @@ use Rattle.sa_syntax.specs.declared.stmt.Stmt.{Stmt, Block', Row_of-BlockItem, e
 use Rattle.sa_syntax.specs.declared.stmt.Stmt.TheVariants as v
 use Rattle.sa_typed.specs.declared.stmt.Stmt as typed
 use Rattle.sa_typed.specs.declared.stmt.Stmt.TheVariants as t
-use Rattle.sa_typer.specs.declared.typer.Typer.{Typer}
-use Rattle.sa_typer.specs.Declarations.{local}
+use Rattle.sa_scopes.specs.declared.typer.Typer.{Typer}
+use Rattle.sa_declarations.specs.Declarations.{local}
 use Rattle.sa_typer.specs.Statements.{simple, directive, scoped, stmt, items, item}
 use Rattle.sa_typer.specs.Bodies as list
-use Rattle.sa_typer.specs.Typing.{Typed, Gives, Typing, and_then, ◌>>=◌, ◌>>◌, pure, each}
+use Rattle.sa_scopes.specs.Typing.{Typed, Gives, Typing, and_then, ◌>>=◌, ◌>>◌, pure, each}
 
 items-row : (n : _) (r : Row_of-BlockItem n) → items r ≡ list.items (items-the_row-BlockItem n r)
 unfolding stmt each

@@ -26,28 +26,28 @@ use Rattle.sa_typed.specs.declared.stmt.Stmt.{Stmt}
 use Rattle.sa_typed.specs.declared.stmt.Stmt.TheVariants as typed
 use Rattle.sa_typer.specs.declared.bodies.Body.{Body}
 use Rattle.sa_typer.specs.declared.bodies.Entry.{Entry}
-use Rattle.sa_typer.specs.declared.typer.Fault.{Fault}
-use Rattle.sa_typer.specs.declared.typer.Typer.{Typer}
-use Rattle.sa_typer.specs.declared.types.Named.TheVariants as n
-use Rattle.sa_typer.specs.declared.types.Ty.{Ty}
-use Rattle.sa_typer.specs.First.{item_pos}
-use Rattle.sa_typer.specs.Scopes.{is_visible}
-use Rattle.sa_typer.specs.Structures.{size_by, sum_by, sizes_of, cells_in, var_shape}
-use Rattle.sa_typer.specs.Declarations.{is_struct}
+use Rattle.sa_scopes.specs.declared.typer.Fault.{Fault}
+use Rattle.sa_scopes.specs.declared.typer.Typer.{Typer}
+use Rattle.sa_scopes.specs.declared.types.Named.TheVariants as n
+use Rattle.sa_scopes.specs.declared.types.Ty.{Ty}
+use Rattle.sa_scopes.specs.First.{item_pos}
+use Rattle.sa_scopes.specs.Scopes.{is_visible}
+use Rattle.sa_scopes.specs.Structures.{size_by, sum_by, sizes_of, cells_in, var_shape}
+use Rattle.sa_declarations.specs.Declarations.{is_struct}
 use Rattle.sa_typer.specs.Statements.{item}
 use Rattle.sa_typer.specs.Bodies as body
 use Rattle.sa_typer.specs.Bodies.{block, no_body, main_by, main_item, main_items, main_block, clock_loop}
 use Rattle.sa_typer.specs.Units as unit
 use Rattle.sa_typer.specs.Units.{plain_type, type_name, is_main, first_main, main, blank, Answer, Accepts, Refuses, TooManyCells, has_entry, program, cells, result_of, result_cells, refusals_by, refusals_in, refusals, accepted_by, accepted_in, unless_refused, answer}
-use Rattle.sa_typer.specs.Refusals.{least_of}
-use Rattle.sa_typer.specs.Typing.{Typed, Typing, Gives, and_then, pure, each, fault}
-use Rattle.sa_typer.proofs.StructLaws.{RefersBelow, DefsBelow, IsFront, weight, cells_weight, AreSized, size_weight, sizes_known}
-use Rattle.sa_typer.proofs.RowLaws.{AllStmts, stmts_append, block_typed, clock_typed}
-use Rattle.sa_typer.proofs.WalkLaws.{Ends, Later, no_fault, Well, IsSound, Leads, Any, state, value, gives, refuses, refusal, bind, next, from, free, either, one_of, unless, all_parts}
+use Rattle.sa_scopes.specs.Refusals.{least_of}
+use Rattle.sa_scopes.specs.Typing.{Typed, Typing, Gives, and_then, pure, each, fault}
+use Rattle.sa_scopes.proofs.StructLaws.{RefersBelow, DefsBelow, IsFront, weight, cells_weight, AreSized, size_weight, sizes_known}
+use Rattle.sa_operands.proofs.RowLaws.{AllStmts, stmts_append, block_typed, clock_typed}
+use Rattle.sa_scopes.proofs.WalkLaws.{Ends, Later, no_fault, Well, IsSound, Leads, Any, state, value, gives, refuses, refusal, bind, next, from, free, either, one_of, unless, all_parts}
 use Rattle.sa_typer.proofs.RefusalLaws.{least_none, unrefused}
-use Rattle.sa_typer.proofs.TypeLaws.{GoodTy, qualifiers_leads}
-use Rattle.sa_typer.proofs.ExprLaws.{structure_leads, type_leads}
-use Rattle.sa_typer.proofs.DeclarationLaws.{named_leads, declared_leads, local_leads}
+use Rattle.sa_operands.proofs.TypeLaws.{GoodTy, qualifiers_leads}
+use Rattle.sa_operands.proofs.ExprLaws.{structure_leads, type_leads}
+use Rattle.sa_declarations.proofs.DeclarationLaws.{named_leads, declared_leads, local_leads}
 use Rattle.sa_typer.proofs.StmtLaws.{none_typed, scoped_leads, item_leads}
 
 module _ (p : Program) where

@@ -15,9 +15,9 @@ use Rattle.sa_syntax.specs.declared.stmt.Stmt.{Stmt as Tree, out-Stmt}
 use Rattle.sa_typed.specs.declared.stmt.Stmt.{Stmt}
 use Rattle.sa_typed.specs.declared.stmt.Stmt.TheVariants as t
 use Rattle.sa_typer.specs.declared.bodies.Body.{Body}
-use Rattle.sa_typer.specs.First.{item_pos}
+use Rattle.sa_scopes.specs.First.{item_pos}
 use Rattle.sa_typer.specs.Statements.{item, scoped}
-use Rattle.sa_typer.specs.Typing.{Typing, ◌>>=◌, ◌>>◌, pure, refuse_if, each}
+use Rattle.sa_scopes.specs.Typing.{Typing, ◌>>=◌, ◌>>◌, pure, refuse_if, each}
 
 -- the items of a block, one after the other
 abbrev pub items : List BlockItem → List Stmt → Typing (List Stmt)

@@ -5,8 +5,8 @@ use Rattle.sa_base.specs.declared.pos.Pos.{Pos}
 use Rattle.sa_base.specs.declared.refusal.Refusal.{Refusal}
 use Rattle.sa_syntax.specs.declared.unit.Unit.{Unit as Source}
 use Rattle.sa_typed.specs.declared.program.Program.{Program}
-use Rattle.sa_typer.specs.declared.typer.Fault.{Fault}
-use Rattle.sa_typer.specs.Refusals.{IsLeast}
+use Rattle.sa_scopes.specs.declared.typer.Fault.{Fault}
+use Rattle.sa_scopes.specs.Refusals.{IsLeast}
 use Rattle.sa_typer.specs.Units.{Answer, Accepts, Refuses, TooManyCells, refusal, refusals, answer}
 
 -- one of the refusals of the text, and none of them is before it

@@ -30,23 +30,23 @@ use Rattle.sa_typed.specs.declared.stmt.Simple.TheVariants as simply
 use Rattle.sa_typed.specs.declared.stmt.Stmt.{Stmt}
 use Rattle.sa_typed.specs.declared.stmt.Stmt.TheVariants as t
 use Rattle.sa_typer.specs.declared.bodies.Body.{Body}
-use Rattle.sa_typer.specs.declared.constant.Value.TheVariants.{Varies}
-use Rattle.sa_typer.specs.declared.form.Form.{Form}
-use Rattle.sa_typer.specs.declared.form.Form.TheVariants as form
-use Rattle.sa_typer.specs.declared.operand.Operand.{Operand}
-use Rattle.sa_typer.specs.declared.operand.Operand.TheVariants as a
-use Rattle.sa_typer.specs.declared.operand.Spot.{Spot}
-use Rattle.sa_typer.specs.First.{place_pos, item_pos}
-use Rattle.sa_typer.specs.Constants.{working}
-use Rattle.sa_typer.specs.Operands.{stand_in, sort_of, is_object}
-use Rattle.sa_typer.specs.Places.{access, form_at}
-use Rattle.sa_typer.specs.declared.operand.Sort.{Sort}
-use Rattle.sa_typer.specs.declared.operand.Sort.TheVariants as sort
-use Rattle.sa_typer.specs.Expressions.{expr}
-use Rattle.sa_typer.specs.Lists.{spot}
-use Rattle.sa_typer.specs.Declarations.{local}
-use Rattle.sa_typer.specs.Scopes.{oldest, count}
-use Rattle.sa_typer.specs.Typing.{Typing, Gives, and_then, ◌>>=◌, ◌>>◌, pure, refuse, refuse_if}
+use Rattle.sa_scopes.specs.declared.constant.Value.TheVariants.{Varies}
+use Rattle.sa_scopes.specs.declared.form.Form.{Form}
+use Rattle.sa_scopes.specs.declared.form.Form.TheVariants as form
+use Rattle.sa_operands.specs.declared.operand.Operand.{Operand}
+use Rattle.sa_operands.specs.declared.operand.Operand.TheVariants as a
+use Rattle.sa_operands.specs.declared.operand.Spot.{Spot}
+use Rattle.sa_scopes.specs.First.{place_pos, item_pos}
+use Rattle.sa_scopes.specs.Constants.{working}
+use Rattle.sa_operands.specs.Operands.{stand_in, sort_of, is_object}
+use Rattle.sa_operands.specs.Places.{access, form_at}
+use Rattle.sa_operands.specs.declared.operand.Sort.{Sort}
+use Rattle.sa_operands.specs.declared.operand.Sort.TheVariants as sort
+use Rattle.sa_operands.specs.Expressions.{expr}
+use Rattle.sa_operands.specs.Lists.{spot}
+use Rattle.sa_declarations.specs.Declarations.{local}
+use Rattle.sa_scopes.specs.Scopes.{oldest, count}
+use Rattle.sa_scopes.specs.Typing.{Typing, Gives, and_then, ◌>>=◌, ◌>>◌, pure, refuse, refuse_if}
 
 -- ---- assignments (ISO C 6.5.16)
 abbrev pub some_assignment : Access → Pos → Simple

@@ -20,21 +20,21 @@ use Rattle.sa_typer.specs.declared.bodies.Body.{Body}
 use Rattle.sa_typer.specs.declared.bodies.Entry.{Entry}
 use Rattle.sa_typer.specs.declared.fault.TypeFault.{TypeFault}
 use Rattle.sa_typer.specs.declared.fault.TypeFault.TheVariants as f
-use Rattle.sa_typer.specs.declared.typer.Fault.{Fault}
-use Rattle.sa_typer.specs.declared.typer.Typer.{Typer}
-use Rattle.sa_typer.specs.declared.types.Element.{Element}
-use Rattle.sa_typer.specs.declared.types.Element.TheVariants as el
-use Rattle.sa_typer.specs.declared.types.Named.TheVariants as n
-use Rattle.sa_typer.specs.declared.types.Ty.{Ty}
-use Rattle.sa_typer.specs.Scopes.{nothing, is_visible}
-use Rattle.sa_typer.specs.Structures.{cells_in, var_shape}
-use Rattle.sa_typer.specs.Types.{qualifiers}
-use Rattle.sa_typer.specs.Expressions.{structure}
-use Rattle.sa_typer.specs.Lists.{type_of}
-use Rattle.sa_typer.specs.Declarations.{named, declared, is_struct}
+use Rattle.sa_scopes.specs.declared.typer.Fault.{Fault}
+use Rattle.sa_scopes.specs.declared.typer.Typer.{Typer}
+use Rattle.sa_scopes.specs.declared.types.Element.{Element}
+use Rattle.sa_scopes.specs.declared.types.Element.TheVariants as el
+use Rattle.sa_scopes.specs.declared.types.Named.TheVariants as n
+use Rattle.sa_scopes.specs.declared.types.Ty.{Ty}
+use Rattle.sa_scopes.specs.Scopes.{nothing, is_visible}
+use Rattle.sa_scopes.specs.Structures.{cells_in, var_shape}
+use Rattle.sa_scopes.specs.Types.{qualifiers}
+use Rattle.sa_operands.specs.Expressions.{structure}
+use Rattle.sa_operands.specs.Lists.{type_of}
+use Rattle.sa_declarations.specs.Declarations.{named, declared, is_struct}
 use Rattle.sa_typer.specs.Bodies.{main_block}
-use Rattle.sa_typer.specs.Refusals.{least_of}
-use Rattle.sa_typer.specs.Typing.{Typed, Typing, Gives, ◌>>=◌, ◌>>◌, pure, refuse_if, refused, fault, each}
+use Rattle.sa_scopes.specs.Refusals.{least_of}
+use Rattle.sa_scopes.specs.Typing.{Typed, Typing, Gives, ◌>>=◌, ◌>>◌, pure, refuse_if, refused, fault, each}
 
 -- ---- items
 -- a type before a name at file scope, where `volatile` is out of place

@@ -1,16 +1,9 @@
-//! What declarations and bodies are typed as.
+//! What bodies are typed as.
 
-use crate::types::Element;
 use sa_base::Text;
-use sa_typed::{Start, Stmt};
+use sa_scopes::types::Element;
+use sa_typed::Stmt;
 use sqlite_items::Items;
-
-/// What a local begins with, and the initial values of its variable.
-#[derive(Drop)]
-pub struct Beginning {
-    pub start: Start,
-    pub initial: Items<i128>,
-}
 
 /// The block of `main` as far as it is typed, and whether the clock loop was there.
 #[derive(Drop)]

@@ -2,13 +2,13 @@
 
 ghost use Rattle.std.specs.Prelude.{◌≡◌, option_map};
 ghost use Rattle.sa_typer.specs.Bodies as spec;
-ghost use Rattle.sa_typer.specs.Typing.{Yields, given};
+ghost use Rattle.sa_scopes.specs.Typing.{Yields, given};
 
 use crate::bodies::Body;
-use crate::first::item_pos;
 use crate::statement::{block, item, leave};
-use crate::typer::Typer;
 use sa_base::OutOfMemory;
+use sa_scopes::first::item_pos;
+use sa_scopes::typer::Typer;
 use sa_syntax::{BlockItem, Directive, Expr, First, Simple};
 use sa_typed::Stmt;
 use sqlite_items::Items;
@@ -148,7 +148,7 @@ fn main_item(
     main_by(alloc, typer, one, found)
 }
 
-#[tactic(auto, using(crate::proofs::Loops::loops))]
+#[tactic(auto, using(sa_scopes::proofs::Loops::loops))]
 fn main_items(alloc: Global, typer: &mut Typer, all: &[BlockItem]) -> Result<Body, OutOfMemory>
     ensures { Yields (spec.main_items all.now spec.no_body typer.old) result typer.new }
 {

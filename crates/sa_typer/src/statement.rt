@@ -4,17 +4,16 @@ ghost use Rattle.std.specs.Prelude.{◌≡◌, []};
 ghost use Rattle.sa_syntax.specs.declared.stmt.Block.{out-Block};
 ghost use Rattle.sa_typer.specs.Statements as spec;
 ghost use Rattle.sa_typer.specs.Bodies as body;
-ghost use Rattle.sa_typer.specs.Typing.{Gives, Yields, given};
+ghost use Rattle.sa_scopes.specs.Typing.{Gives, Yields, given};
 
-use crate::constant::{Value, working};
-use crate::declaration::declare_locals;
-use crate::expr::{expr, spot};
-use crate::first::place_pos;
-use crate::form::Form;
-use crate::operand::{Operand, Sort, Spot, stand_in};
-use crate::place::access_of;
-use crate::typer::Typer;
 use sa_base::{Num, OutOfMemory, Pos};
+use sa_declarations::declare_locals;
+use sa_operands::expr::{expr, spot};
+use sa_operands::{Operand, Sort, Spot, access_of, stand_in};
+use sa_scopes::constant::{Value, working};
+use sa_scopes::first::place_pos;
+use sa_scopes::form::Form;
+use sa_scopes::typer::Typer;
 use sa_syntax::{Block, BlockItem, Compound, Directive, Place, Turn};
 use sa_typed::{Access, Expr, Operator, Simple, Stmt};
 use sqlite_items::Items;
@@ -289,7 +288,7 @@ pub fn item(
 }
 
 #[cycle(statements)]
-#[tactic(auto, using(crate::proofs::Loops::loops))]
+#[tactic(auto, using(sa_scopes::proofs::Loops::loops))]
 fn items(alloc: Global, typer: &mut Typer, all: &[BlockItem]) -> Result<Items<Stmt>, OutOfMemory>
     ensures { Yields (body.items all.now [] typer.old) result typer.new }
 {

@@ -8,20 +8,20 @@ ghost use Rattle.sa_typed.specs.WellTyped.{IsTyped};
 ghost use Rattle.sa_typer.specs.Units as spec;
 ghost use Rattle.sa_typer.specs.Units.{Accepts, Tells};
 ghost use Rattle.sa_typer.specs.Answers.{IsFault};
-ghost use Rattle.sa_typer.specs.Refusals.{least_of as least};
-ghost use Rattle.sa_typer.specs.Typing.{Yields};
+ghost use Rattle.sa_scopes.specs.Refusals.{least_of as least};
+ghost use Rattle.sa_scopes.specs.Typing.{Yields};
 ghost use Rattle.sa_unbuilt.specs.Unbuilt.{IsBuilt};
 
 use crate::bodies::{Body, Entry};
 use crate::body::main_block;
-use crate::declaration::{declare, declare_globals, is_struct};
-use crate::expr::{structure, type_of};
 use crate::fault::TypeFault;
-use crate::scope::Scope;
-use crate::structs::Structs;
-use crate::typer::{Fault, Typer, least_of, lesser};
-use crate::types::{Element, Named, Ty, check_qualifiers};
 use sa_base::{Code, Limit, Num, OutOfMemory, Pos, Refusal, Text};
+use sa_declarations::{declare, declare_globals, is_struct};
+use sa_operands::expr::{structure, type_of};
+use sa_scopes::scope::Scope;
+use sa_scopes::structs::Structs;
+use sa_scopes::typer::{Fault, Typer, least_of, lesser};
+use sa_scopes::types::{Element, Named, Ty, check_qualifiers};
 use sa_syntax::{Block, Item, Name, Specifiers, Unit};
 use sa_typed::{Func, Program};
 use sqlite_items::Items;
@@ -136,7 +136,7 @@ fn item(
     }
 }
 
-#[tactic(auto, using(crate::proofs::Loops::loops))]
+#[tactic(auto, using(sa_scopes::proofs::Loops::loops))]
 fn items(alloc: Global, typer: &mut Typer, all: &[Item]) -> Result<Option<Entry>, OutOfMemory>
     ensures { Yields (spec.items all.now None typer.old) result typer.new }
 {

@@ -1,0 +1,4 @@
+pub mod TrimLemmas
+pub mod InitRows
+pub mod InitialLaws
+pub mod DeclarationLaws

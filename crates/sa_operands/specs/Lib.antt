@@ -1,0 +1,5 @@
+pub mod Operands
+pub mod Places
+pub mod Definitions
+pub mod Expressions
+pub mod Lists

@@ -1,0 +1,9 @@
+pub mod ScopeLemmas
+pub mod FirstRows
+pub mod Loops
+pub mod FormLemmas
+pub mod ConstantLemmas
+pub mod SizeLemmas
+pub mod SlotLemmas
+pub mod StructLaws
+pub mod WalkLaws

@@ -1,0 +1,9 @@
+pub mod Scopes
+pub mod Forms
+pub mod Structures
+pub mod Constants
+pub mod Typing
+pub mod Refusals
+pub mod First
+pub mod Types
+pub mod Values

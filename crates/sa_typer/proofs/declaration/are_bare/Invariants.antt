@@ -1,7 +1,0 @@
-use Rattle.std.proofs.Common.{◌≡◌, take, true}
-use Rattle.std.specs.List.{fold}
-use Rattle.sa_typer.specs.Declarations.{and_bare}
-use Rattle.sa_typer.proofs.declaration.are_bare.Given as goal
-
-abbrev pub invariant-loop-one : goal.invariant-loop-one
-invariant-loop-one l = l.found ≡ fold and_bare true (take l.one-index l.all)

@@ -1,6 +1,0 @@
-use Rattle.std.proofs.Common.{◌≡◌, drop}
-use Rattle.sa_typer.specs.Declarations.{globals}
-use Rattle.sa_typer.proofs.declaration.globals.Given as goal
-
-abbrev pub invariant-loop-one : goal.invariant-loop-one
-invariant-loop-one l = globals l.volatile l.ty l.all l.fn.typer ≡ globals l.volatile l.ty (drop l.one-index l.all) l.typer

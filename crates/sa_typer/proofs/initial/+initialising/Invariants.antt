@@ -1,9 +1,0 @@
-use Rattle.std.proofs.Common.{List}
-use Rattle.std.specs.Prelude.{ℤ}
-use Rattle.sa_typer.specs.Forms.{inside}
-use Rattle.sa_typer.specs.Initialisers.{Stands}
-use Rattle.sa_typer.proofs.InitRows.{Goes}
-use Rattle.sa_typer.proofs.initial.+initialising.Given as goal
-
-abbrev pub invariant-items-loop-at : goal.invariant-items-loop-at
-invariant-items-loop-at l = (zs : List ℤ) → Stands l.fn.first zs → Goes l.all l.pos (inside l.depth l.shape) zs l.fn.typer l.at l.found l.typer

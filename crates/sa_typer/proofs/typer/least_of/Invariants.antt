@@ -1,7 +1,0 @@
-use Rattle.std.proofs.Common.{◌≡◌, take, None}
-use Rattle.std.specs.List.{fold}
-use Rattle.sa_typer.specs.Refusals.{with_fault}
-use Rattle.sa_typer.proofs.typer.least_of.Given as goal
-
-abbrev pub invariant-loop-fault : goal.invariant-loop-fault
-invariant-loop-fault l = l.least ≡ fold with_fault None (take l.fault-index l.faults)

@@ -1,7 +1,0 @@
-use Rattle.std.proofs.Common.{◌≡◌, drop}
-use Rattle.sa_typer.specs.Typing.{each}
-use Rattle.sa_typer.specs.Types.{qualifier}
-use Rattle.sa_typer.proofs.types.check_qualifiers.Given as goal
-
-abbrev pub invariant-loop-word : goal.invariant-loop-word
-invariant-loop-word l = each (qualifier l.volatile l.fixed) l.words tt l.fn.typer ≡ each (qualifier l.volatile l.fixed) (drop l.word-index l.words) tt l.typer
