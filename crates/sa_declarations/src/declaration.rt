@@ -233,13 +233,14 @@ fn are_bare(all: &[InitDeclr]) -> bool
     found
 }
 
+/// Whether an object of it is a structure, apart from dimensions.
 pub fn is_struct(element: Element) -> bool
     ensures { result ≡ spec.is_struct element }
 {
     matches!(element, Element::Struct(_))
 }
 
-/// A declaration at file scope, where `volatile` may stand before scalars.
+/// A declaration at file scope, where `volatile` may stand before scalars: its variables and inputs, in the order of the text.
 #[tactic(auto, unfolding(crate::specs::Declarations::declared))]
 pub fn declare_globals(
     alloc: Global,
@@ -395,7 +396,7 @@ fn locals(
     Ok(())
 }
 
-/// A declaration in a block, after the statements so far.
+/// A declaration in a block: its variables, and for each a statement after those so far.
 #[tactic(auto, unfolding(crate::specs::Declarations::local))]
 pub fn declare_locals(
     alloc: Global,

@@ -23,7 +23,7 @@ use sa_syntax::{Base, Bound, Declr, Expr, Field, Link, Place, Specifiers, Step, 
 use sqlite_items::Items;
 use std::alloc::Global;
 
-/// What an expression is.
+/// What an expression is typed as; what is wrong with it is noted in the state, and an error is want of memory alone.
 #[cycle(typing)]
 #[tactic(auto, using(crate::proofs::ExprRows::expr_rows))]
 pub fn expr(alloc: Global, typer: &mut Typer, e: &Expr) -> Result<Operand, OutOfMemory>
@@ -90,7 +90,7 @@ fn links(alloc: Global, typer: &mut Typer, all: &[Link], first: Left) -> Result<
     Ok(left)
 }
 
-/// A place.
+/// What a place is typed as, with its steps in the order of the text.
 #[cycle(typing)]
 #[tactic(auto, unfolding(crate::specs::Lists::spot))]
 pub fn spot(alloc: Global, typer: &mut Typer, place: &Place) -> Result<Spot, OutOfMemory>
@@ -143,7 +143,7 @@ fn base_type(alloc: Global, typer: &mut Typer, ty: &Specifiers) -> Result<Ty, Ou
     }
 }
 
-/// A type.
+/// A type with its qualifiers, which aren't refused here.
 #[cycle(typing)]
 #[tactic(auto, unfolding(crate::specs::Lists::type_of))]
 pub fn type_of(alloc: Global, typer: &mut Typer, ty: &Specifiers) -> Result<Ty, OutOfMemory>
@@ -153,7 +153,7 @@ pub fn type_of(alloc: Global, typer: &mut Typer, ty: &Specifiers) -> Result<Ty, 
     Ok(qualified(ty.qualifiers.as_slice(), base))
 }
 
-/// The type of an object.
+/// The type of an object, where `void` is refused.
 #[cycle(typing)]
 #[tactic(auto, unfolding(crate::specs::Lists::object_type, crate::specs::Lists::type_of))]
 pub fn object_type(alloc: Global, typer: &mut Typer, ty: &Specifiers) -> Result<Ty, OutOfMemory>
@@ -163,7 +163,7 @@ pub fn object_type(alloc: Global, typer: &mut Typer, ty: &Specifiers) -> Result<
     not_void(typer, ty.pos, whole)
 }
 
-/// A structure that is defined.
+/// A structure that is defined, with its tag where it has one.
 #[cycle(typing)]
 #[tactic(auto, using(crate::proofs::ExprRows::struct_rows))]
 pub fn structure(alloc: Global, typer: &mut Typer, body: &Struct) -> Result<Ty, OutOfMemory>

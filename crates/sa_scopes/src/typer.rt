@@ -58,7 +58,9 @@ pub fn least_of(faults: &[Fault]) -> Option<Fault>
     least
 }
 
-/// The names and tags that are visible, what is declared so far, the literals beside comparisons, and all refusals.
+/// The names and tags that are visible, what is declared so far, the literals beside comparisons, and all refusals. Variables
+/// and inputs stand by their numbers, refusals in the order of the walk. After want of memory a part of a step may be in it, and
+/// it isn't used again.
 #[derive(Drop)]
 pub struct Typer {
     pub names: Scope<Named>,
