@@ -3,6 +3,7 @@ use Rattle.std.proofs.Common.{◌≡◌, ℕ, ◌+◌, Bool, true, false, not, �
 use Rattle.std.proofs.lemmas.List.Elements.{filter_map-append}
 use Rattle.std.specs.Prelude.{ℤ}
 use Rattle.sa_base.specs.declared.num.Num.{Num}
+use Rattle.sa_base.specs.declared.num.Num.TheVariants.{I32}
 use Rattle.sa_base.specs.declared.pos.Pos.{Pos}
 use Rattle.sa_syntax.specs.declared.decl.Declr.{out-Declr}
 use Rattle.sa_syntax.specs.declared.decl.Init as inits
@@ -34,7 +35,7 @@ use Rattle.sa_typer.specs.declared.types.Ty.{Ty}
 use Rattle.sa_typer.specs.Declarations.{initial, global_by, global, next_global, declared, input_type, input_by, are_bare, is_struct, begun_with, begun_by, begun, local_of, next_local, local}
 use Rattle.sa_typer.specs.Expressions.{expr}
 use Rattle.sa_typer.specs.First.{expr_pos, init_pos}
-use Rattle.sa_typer.specs.Forms.{form_of}
+use Rattle.sa_typer.specs.Forms.{form_of, scalar}
 use Rattle.sa_typer.specs.Initialisers.{item, within, valued, slotted, init, braced, values}
 use Rattle.sa_typer.specs.Operands.{sort_of, is_object, known_value, no_object}
 use Rattle.sa_typer.specs.Structures.{slot}
@@ -86,10 +87,11 @@ module _ (os : List Open) (found : Bool) where
   valued_reads e (form.Struct k) i zs s h = no_item (expr_pos e) zs _ s
   valued_reads e (form.Array n) i zs s h = no_item (expr_pos e) zs _ s
 
-  slotted_reads : (p : Pos) (o : Option Shape) (zs : List ℤ) (m : Shape → Typing (List ℤ)) (es : List Event) (s : Typer) → ((shape : Shape) → Reads (At os found) s es (λ zs. At os found) (m shape s)) →
-      Reads (At os found) s es (λ zs. At os found) (slotted p o zs m s)
-  slotted_reads p None zs m es s h = record { clear = refused_clear 20 p s; reads = λ c n k x. absurd (not_clear p s c) }
-  slotted_reads p (Some shape) zs m es s h = h shape
+  -- an item for which there is no element counts as one for an int
+  slotted_reads : (p : Pos) (o : Option Shape) (m : Shape → Typing (List ℤ)) (es : List Event) (s : Typer) → ((shape : Shape) (t : Typer) → Reads (At os found) t es (λ zs. At os found) (m shape t)) →
+      Reads (At os found) s es (λ zs. At os found) (slotted p o m s)
+  slotted_reads p None m es s h = bind (quiet (quiet_refuses {a = tt {0}} 20 p refl)) (λ u t. h (scalar I32) t)
+  slotted_reads p (Some shape) m es s h = h shape s
 
   mutual
     unfolding init in_init
@@ -102,7 +104,7 @@ module _ (os : List Open) (found : Bool) where
     braced_reads : {n : _} (row : Row_of-Init n) (p : Pos) (shape : Shape) (k : ℕ) (zs : List ℤ) (s : Typer) → Reads (At os found) s (in_inits row) (λ zs. At os found) (braced row p shape k zs s)
     braced_reads end_of-Init p shape k zs s = quiet quiet_gives
     braced_reads (more_of-Init i rest) p shape k zs s =
-        bind (slotted_reads p (slot s.structs shape k) zs (λ inner. init i inner zs) (in_init i) s (λ inner. init_reads i inner zs s)) (λ zs t. braced_reads rest p shape (k + 1) zs t)
+        bind (slotted_reads p (slot s.structs shape k) (λ inner. init i inner zs) (in_init i) s (λ inner t. init_reads i inner zs t)) (λ zs t. braced_reads rest p shape (k + 1) zs t)
 
   values_reads : (i : Init) (shape : Shape) (s : Typer) → Reads (At os found) s (in_init i) (λ zs. At os found) (values i shape s)
   unfolding values

@@ -10,7 +10,7 @@ ghost use Rattle.sa_typer.specs.Typing.{Yields};
 use crate::constant::needed;
 use crate::expr::expr;
 use crate::first::expr_pos;
-use crate::form::Form;
+use crate::form::{Form, scalar};
 use crate::operand::{Operand, no_object};
 use crate::structs::Slot;
 use crate::typer::Typer;
@@ -187,7 +187,7 @@ fn items(
     Ok(found.skip(missing))
 }
 
-/// The item with that number.
+/// The item with that number; one too many counts as one for an int.
 #[cycle(initialising)]
 fn nth_item(
     alloc: Global,
@@ -204,7 +204,7 @@ fn nth_item(
     match typer.structs.slot(alloc, shape, depth, at)? {
         Slot::Nothing => {
             typer.refuse(20, pos)?;
-            Ok(found)
+            init(alloc, typer, one, &scalar(alloc, Num::I32), 0, found)
         }
         Slot::Element(deeper) => init(alloc, typer, one, shape, deeper, found),
         Slot::Field(inner) => init(alloc, typer, one, &inner, 0, found),
