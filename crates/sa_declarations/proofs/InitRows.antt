@@ -9,6 +9,7 @@ use Rattle.sa_syntax.specs.declared.decl.Init.TheVariants as vs
 use Rattle.sa_syntax.specs.declared.expr.Expr.{Expr}
 use Rattle.sa_typed.specs.declared.shape.Shape.{Shape}
 use Rattle.sa_base.specs.declared.num.Num.{Num}
+use Rattle.sa_base.specs.declared.num.Num.TheVariants.{I32}
 use Rattle.sa_scopes.specs.declared.form.Form.{Form}
 use Rattle.sa_scopes.specs.declared.form.Form.TheVariants as form
 use Rattle.sa_declarations.specs.declared.initial.Values.{Values}
@@ -17,7 +18,7 @@ use Rattle.sa_scopes.specs.declared.typer.Typer.{Typer}
 use Rattle.sa_scopes.specs.First.{expr_pos}
 use Rattle.sa_scopes.specs.Structures.{slot, missing}
 use Rattle.sa_operands.specs.Expressions.{expr}
-use Rattle.sa_scopes.specs.Forms.{form_of}
+use Rattle.sa_scopes.specs.Forms.{form_of, scalar}
 use Rattle.sa_declarations.specs.Initialisers.{init, braced, items, nth_item, item, valued, slotted, values, trimmed, zeros, Stands, IsGiven, GivesValues}
 use Rattle.sa_declarations.proofs.TrimLemmas.{stands_trimmed}
 use Rattle.sa_scopes.specs.Typing.{Typed, Gives, Typing, and_then, ◌>>=◌, refuse, refused}
@@ -82,11 +83,11 @@ goes_end is p shape zs s k v w t h g last = record {
 }
 
 -- ---- one item
-pub given_none : (i : Init) (p : Pos) (shape : Shape) (k : ℕ) (zs : List ℤ) (s : Typer) (v : Values) → slot s.structs shape k ≡ None → Stands v zs → IsGiven (nth_item i p shape k zs s) v (refused 20 p s)
-given_none i p shape k zs s v h g = record { values = zs; is = ap (λ (o : Option Shape). slotted p o zs (λ inner. init i inner zs) s) h; stands = g }
+pub given_none : (i : Init) (p : Pos) (shape : Shape) (k : ℕ) (zs : List ℤ) (s t : Typer) (v : Values) → slot s.structs shape k ≡ None → IsGiven (init i (scalar I32) zs (refused 20 p s)) v t → IsGiven (nth_item i p shape k zs s) v t
+given_none i p shape k zs s t v h g = record { values = g.values; is = ap (λ (o : Option Shape). slotted p o (λ inner. init i inner zs) s) h ∙ g.is; stands = g.stands }
 
 pub given_slot : (i : Init) (p : Pos) (shape inner : Shape) (k : ℕ) (zs : List ℤ) (s t : Typer) (v : Values) → slot s.structs shape k ≡ Some inner → IsGiven (init i inner zs s) v t → IsGiven (nth_item i p shape k zs s) v t
-given_slot i p shape inner k zs s t v h g = record { values = g.values; is = ap (λ (o : Option Shape). slotted p o zs (λ inner. init i inner zs) s) h ∙ g.is; stands = g.stands }
+given_slot i p shape inner k zs s t v h g = record { values = g.values; is = ap (λ (o : Option Shape). slotted p o (λ inner. init i inner zs) s) h ∙ g.is; stands = g.stands }
 
 -- ---- the whole
 pub given_all : (i : Init) (shape : Shape) (s t : Typer) (v : Values) → IsGiven (init i shape [] s) v t → values i shape s ≡ Gives v.written t
@@ -110,11 +111,14 @@ pub braces_answer : (i : Init) (p : Pos) (is : List Init) (shape : Shape) (zs : 
 braces_answer i p is shape zs s new (Ok v) h w = subst (λ (j : Init). IsGiven (init j shape zs s) v new) (sym h) (given_braces p is shape zs s new v w)
 braces_answer i p is shape zs s new (Err o) h w = tt
 
-pub none_answer : (i : Init) (p : Pos) (shape : Shape) (k : ℕ) (zs : List ℤ) (s t : Typer) (v : Values) → None ≡ slot s.structs shape k → refuse 20 p s ≡ Gives tt t → Stands v zs → IsGiven (nth_item i p shape k zs s) v t
-none_answer i p shape k zs s t v h g w =
-    let one = given_none i p shape k zs s v (sym h) w in
-    let ends : refused 20 p s ≡ t = cc in
-    subst (λ (u : Typer). IsGiven (nth_item i p shape k zs s) v u) ends one
+none_by : (i : Init) (p : Pos) (shape : Shape) (k : ℕ) (zs : List ℤ) (s u t : Typer) (r : Result Values OutOfMemory) → None ≡ slot s.structs shape k → refused 20 p s ≡ u → GivesValues (init i (scalar I32) zs u) r t →
+    GivesValues (nth_item i p shape k zs s) r t
+none_by i p shape k zs s u t (Ok v) h g w = given_none i p shape k zs s t v (sym h) (subst (λ (x : Typer). IsGiven (init i (scalar I32) zs x) v t) (sym g) w)
+none_by i p shape k zs s u t (Err o) h g w = tt
+
+pub none_answer : (i : Init) (p : Pos) (shape : Shape) (k : ℕ) (zs : List ℤ) (s u t : Typer) (r : Result Values OutOfMemory) → None ≡ slot s.structs shape k → refuse 20 p s ≡ Gives tt u → GivesValues (init i (scalar I32) zs u) r t →
+    GivesValues (nth_item i p shape k zs s) r t
+none_answer i p shape k zs s u t r h g w = let ends : refused 20 p s ≡ u = cc in none_by i p shape k zs s u t r h ends w
 
 pub slot_answer : (i : Init) (p : Pos) (shape inner : Shape) (k : ℕ) (zs : List ℤ) (s t : Typer) (r : Result Values OutOfMemory) → Some inner ≡ slot s.structs shape k → GivesValues (init i inner zs s) r t → GivesValues (nth_item i p shape k zs s) r t
 slot_answer i p shape inner k zs s t (Ok v) h w = given_slot i p shape inner k zs s t v (sym h) w

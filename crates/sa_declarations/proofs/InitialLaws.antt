@@ -5,6 +5,7 @@ use Rattle.std.proofs.lemmas.List.{append-nil, length-append}
 use Rattle.std.specs.Ordering.{int_eq}
 use Rattle.std.specs.Prelude.{if◌then◌else◌, slice_get, reverse, IsTrue}
 use Rattle.sa_base.specs.declared.num.Num.{Num}
+use Rattle.sa_base.specs.declared.num.Num.TheVariants.{I32}
 use Rattle.sa_base.specs.declared.pos.Pos.{Pos}
 use Rattle.sa_syntax.specs.declared.decl.Init.{Init, Value, Braces', Row_of-Init, end_of-Init, more_of-Init}
 use Rattle.sa_typed.specs.Arithmetic.{is_of}
@@ -24,7 +25,7 @@ use Rattle.sa_scopes.specs.declared.typer.Typer.{Typer}
 use Rattle.sa_scopes.specs.First.{expr_pos}
 use Rattle.sa_scopes.specs.declared.form.Form.{Form}
 use Rattle.sa_scopes.specs.declared.form.Form.TheVariants as form
-use Rattle.sa_scopes.specs.Forms.{form_by, form_of, inside}
+use Rattle.sa_scopes.specs.Forms.{form_by, form_of, inside, scalar}
 use Rattle.sa_scopes.specs.Structures.{Structs, sum_by, sizes_of, elements_in, field_shape, field_shapes, shapes_in, slots_by, slots, slot, missing_by, missing}
 use Rattle.sa_operands.specs.Operands.{known_value}
 use Rattle.sa_operands.specs.Expressions.{expr}
@@ -281,18 +282,19 @@ module _ (p : Program) where
 
   -- an item fills its slot
   slot_leads : (q : Pos) (shape : Shape) (k : ℕ) (total : List Num) (found : List ℤ) (s : Typer) (o : Option Shape) (m : Shape → Typing (List ℤ)) → slot s.structs shape k ≡ o →
-      ((x : Shape) (before : List Num) → Leads p (Starts s x before found) s (λ zs t. Fits (before ++ nums (shape_layout p.structs x)) zs) (m x s)) →
-      Leads p (IsLeft s shape k total found) s (λ zs t. IsLeft t shape (k + 1) total zs) (slotted q o found m s)
-  slot_leads q shape k total found s None m g one = refuses 20 q
+      ((x : Shape) (before : List Num) (t : Typer) → Leads p (Starts t x before found) t (λ zs u. Fits (before ++ nums (shape_layout p.structs x)) zs) (m x t)) →
+      Leads p (IsLeft s shape k total found) s (λ zs t. IsLeft t shape (k + 1) total zs) (slotted q o m s)
+  slot_leads q shape k total found s None m g one =
+      bind {Y = λ (a : Unit {0}) u. ⊥} {Z = λ a u. ⊥} {f = λ a. m (scalar I32)} (refuses 20 q) (λ a u l x w y. y) (λ a u. record { later = (one (scalar I32) [] u).later; good = λ w h e. absurd {0} h })
   slot_leads q shape k total found s (Some x) m g one = record {
-    later = (one x []).later;
+    later = (one x [] s).later;
     good = λ w h e.
-        let now = (one x []).later.back e in
-        let done = (one x h.before).good w (record { below = slot_below s shape x k w h.below g; fits = h.fits }) e in (
+        let now = (one x [] s).later.back e in
+        let done = (one x h.before s).good w (record { below = slot_below s shape x k w h.below g; fits = h.fits }) e in (
           done.0,
           record {
             before = h.before ++ nums (shape_layout p.structs x);
-            below = refers_more (length s.structs.defs) (length (state (m x s)).structs.defs) shape (one x []).later.more h.below;
+            below = refers_more (length s.structs.defs) (length (state (m x s)).structs.defs) shape (one x [] s).later.more h.below;
             whole = append_assoc h.before (nums (shape_layout p.structs x)) (left_nums p shape (k + 1)) ∙ ap (λ (ns : List Num). h.before ++ ns) (sym (next_slot s shape x k now h.below g)) ∙ h.whole;
             fits = done.1;
           },
@@ -311,7 +313,7 @@ module _ (p : Program) where
     braced_leads : {n : _} (is : Row_of-Init n) (q : Pos) (shape : Shape) (k : ℕ) (total : List Num) (found : List ℤ) (s : Typer) → Leads p (IsLeft s shape k total found) s (λ zs t. Fits total zs) (braced is q shape k found s)
     braced_leads end_of-Init q shape k total found s = ends_row s shape k total found
     braced_leads (more_of-Init i rest) q shape k total found s =
-        bind {Z = λ zs t. IsLeft t shape (k + 1) total zs} (slot_leads q shape k total found s (slot s.structs shape k) (λ inner. init i inner found) refl (λ x before. init_leads i x before found s)) (λ zs t l h w y. y)
+        bind {Z = λ zs t. IsLeft t shape (k + 1) total zs} (slot_leads q shape k total found s (slot s.structs shape k) (λ inner. init i inner found) refl (λ x before t. init_leads i x before found t)) (λ zs t l h w y. y)
         (λ zs t. braced_leads rest q shape (k + 1) total zs t)
 
   -- an object from its first value on

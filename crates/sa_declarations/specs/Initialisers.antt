@@ -4,6 +4,7 @@ use Rattle.std.specs.Prelude.{ℕ, ◌≡◌, ◌+◌, ℤ, pos, List, [], ◌�
 use Rattle.std.specs.declared.alloc.AllocError.{AllocError as OutOfMemory}
 use Rattle.std.specs.Ordering.{int_eq}
 use Rattle.sa_base.specs.declared.num.Num.{Num}
+use Rattle.sa_base.specs.declared.num.Num.TheVariants.{I32}
 use Rattle.sa_base.specs.declared.pos.Pos.{Pos}
 use Rattle.sa_syntax.specs.declared.decl.Init.{Init, Value, Braces', Row_of-Init, end_of-Init, more_of-Init}
 use Rattle.sa_typed.specs.Arithmetic.{is_of}
@@ -14,7 +15,7 @@ use Rattle.sa_declarations.specs.declared.initial.Values.{Values}
 use Rattle.sa_operands.specs.declared.operand.Operand.{Operand}
 use Rattle.sa_scopes.specs.declared.typer.Typer.{Typer}
 use Rattle.sa_scopes.specs.First.{expr_pos}
-use Rattle.sa_scopes.specs.Forms.{form_of}
+use Rattle.sa_scopes.specs.Forms.{form_of, scalar}
 use Rattle.sa_scopes.specs.Structures.{slot, missing, kept}
 use Rattle.sa_scopes.specs.Values.{constant}
 use Rattle.sa_operands.specs.Operands.{known_value, no_object}
@@ -37,10 +38,11 @@ valued p _ x found = refuse 20 p >> pure found
 abbrev pub zeros : ℕ → List ℤ
 zeros n = replicate n (pos 0)
 
--- an item of braces that stand at that place, given what it is typed as for its slot; one too many is refused there
-abbrev pub slotted : Pos → Option Shape → List ℤ → (Shape → Typing (List ℤ)) → Typing (List ℤ)
-slotted p None found m = refuse 20 p >> pure found
-slotted p (Some shape) found m = m shape
+-- an item of braces that stand at that place, given what it is typed as for its slot; one too many is refused there, and counts
+-- as one for an int
+abbrev pub slotted : Pos → Option Shape → (Shape → Typing (List ℤ)) → Typing (List ℤ)
+slotted p None m = refuse 20 p >> m (scalar I32)
+slotted p (Some shape) m = m shape
 
 unfoldable mutual
   -- the values of the elements, in their order, after those so far
@@ -51,11 +53,11 @@ unfoldable mutual
   -- the items between braces from the one with that number on; each that is missing is 0
   pub braced : {n : _} → Row_of-Init n → Pos → Shape → ℕ → List ℤ → Typing (List ℤ)
   braced end_of-Init p shape k found = λ s. Gives (found ++ zeros (missing s.structs shape k)) s
-  braced (more_of-Init i rest) p shape k found = (λ s. slotted p (slot s.structs shape k) found (λ inner. init i inner found) s) >>= braced rest p shape (k + 1)
+  braced (more_of-Init i rest) p shape k found = (λ s. slotted p (slot s.structs shape k) (λ inner. init i inner found) s) >>= braced rest p shape (k + 1)
 
 -- the item with that number
 abbrev pub nth_item : Init → Pos → Shape → ℕ → List ℤ → Typing (List ℤ)
-nth_item i p shape k found = λ s. slotted p (slot s.structs shape k) found (λ inner. init i inner found) s
+nth_item i p shape k found = λ s. slotted p (slot s.structs shape k) (λ inner. init i inner found) s
 
 -- the items as a list
 unfoldable pub items : List Init → Pos → Shape → ℕ → List ℤ → Typing (List ℤ)

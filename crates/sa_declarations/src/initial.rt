@@ -12,7 +12,7 @@ use sa_operands::expr::expr;
 use sa_operands::{Operand, no_object};
 use sa_scopes::constant::needed;
 use sa_scopes::first::expr_pos;
-use sa_scopes::form::Form;
+use sa_scopes::form::{Form, scalar};
 use sa_scopes::structs::Slot;
 use sa_scopes::typer::Typer;
 use sa_syntax::Init;
@@ -187,7 +187,7 @@ fn items(
     Ok(found.skip(missing))
 }
 
-/// The item with that number.
+/// The item with that number; one too many counts as one for an int.
 #[cycle(initialising)]
 fn nth_item(
     alloc: Global,
@@ -204,7 +204,7 @@ fn nth_item(
     match typer.structs.slot(alloc, shape, depth, at)? {
         Slot::Nothing => {
             typer.refuse(20, pos)?;
-            Ok(found)
+            init(alloc, typer, one, &scalar(alloc, Num::I32), 0, found)
         }
         Slot::Element(deeper) => init(alloc, typer, one, shape, deeper, found),
         Slot::Field(inner) => init(alloc, typer, one, &inner, 0, found),

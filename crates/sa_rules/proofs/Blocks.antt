@@ -34,11 +34,13 @@ use Rattle.sa_scopes.specs.Scopes.{Scope, is_some, oldest, count}
 use Rattle.sa_typer.specs.Statements.{to_number, to_struct, to_form, assigned, compound_of, turn_of, one as just_one, sort_by, compounded_number, compounded_by, compounded, left_side, simple, left_scope, scoped, directive, stmt, items, item}
 use Rattle.sa_scopes.specs.Typing.{Typed, Typing, Gives, and_then, each, refuse_if, fault}
 use Rattle.sa_rules.specs.Events.{Event, Begins, Ends}
-use Rattle.sa_rules.specs.Sight.{Kind, Open, Block, see, left}
-use Rattle.sa_rules.specs.Texts.{in_place, in_simple, in_directive, in_stmt, in_items, in_item, in_loop_or_item, stray_if, in_main, has_loop}
-use Rattle.sa_rules.proofs.Walks.{name_kind, is_struct_tag, seen_as, state, value, Reads, Quiet, quiet_gives, quiet_refuses, quiet_then, quiet_unless, quiet, bind, then_here, ends, from, all_parts, refused_clear, refused_noted}
-use Rattle.sa_rules.proofs.Steps.{At, one, one_as, refused_one, nothing_added}
+use Rattle.sa_rules.specs.Scenes.{Meaning, within}
+use Rattle.sa_rules.specs.Sight.{Open, Block, see}
+use Rattle.sa_rules.specs.Texts.{in_left, in_simple, in_directive, in_stmt, in_items, in_item, in_loop_or_item, stray_if, in_main, has_loop}
+use Rattle.sa_rules.proofs.Walks.{meant, scene_of, state, value, Reads, Quiet, quiet_gives, quiet_refuses, quiet_then, quiet_unless, quiet, bind, then_here, ends, all_parts, refused_noted}
+use Rattle.sa_rules.proofs.Steps.{At, seeing, one, one_at, one_as, refused_one, nothing_added}
 use Rattle.sa_rules.proofs.Names.{oldest_seen}
+use Rattle.sa_rules.proofs.Places.{assigns_reads}
 use Rattle.sa_rules.proofs.Trees.{expr_reads, spot_reads}
 use Rattle.sa_rules.proofs.Declared.{local_reads}
 
@@ -114,8 +116,8 @@ main_clock is s =
     ap (λ (t : Typed Body). (value t).clock) (then_is (main_items is no_body s) (left_scope (count s.names) (count s.tags))) ∙ clock_in is no_body s
 
 module _ (found : Bool) where
-  left_reads : (os : List Open) (y : Place) (s : Typer) → Reads (At os found) s (in_place y) (λ l. At os found) (left_side y s)
-  left_reads os y s = ends (spot_reads found os y s) (λ l t. quiet_then (quiet_unless l.locked 6 (place_pos y) refl) (λ u v. quiet_gives))
+  left_reads : (os : List Open) (y : Place) (s : Typer) → Reads (At os found) s (in_left y) (λ l. At os found) (left_side y s)
+  left_reads os y s = bind (spot_reads found os y s) (λ l t. assigns_reads os found (place_pos y) l t)
 
   simple_reads : (os : List Open) (y : from_tree.Simple) (s : Typer) → Reads (At os found) s (in_simple y) (λ a. At os found) (simple y s)
   unfolding simple in_simple
@@ -127,27 +129,13 @@ module _ (found : Bool) where
   -- ---- blocks
   begins_reads : (os : List Open) (s : Typer) → Reads (At os found) s (Begins ∷ []) (λ u. At (Block (count s.names) (count s.tags) ∷ os) found) (Gives (tt {0}) s)
   unfolding see
-  begins_reads os s =
-      one (λ c. c)
-      (λ m ns ts h. one_as (record m { opened = Block (count m.names) (count m.tags) ∷ m.opened }) [] refl refl ns ts (nothing_added s)
-      (record {
-        opened = ap (λ (l : List Open). Block (count m.names) (count m.tags) ∷ l) h.opened ∙ ap (λ (k : Scope (Option Kind)). Block (count k) (count m.tags) ∷ os) ns
-            ∙ ap (λ (k : Scope Bool). Block (count {M = Option Kind} (seen_as name_kind s.names)) (count k) ∷ os) ts ∙ same_counts s;
-        entry = h.entry;
-      })) where
-        map_length : {M N : Type 0} (f : M → N) (n : Scope M) → count (seen_as f n) ≡ count n
-        map_length f n = refl
-
-        same_counts : (s : Typer) → Block (count (seen_as name_kind s.names)) (count (seen_as is_struct_tag s.tags)) ∷ os ≡ Block (count s.names) (count s.tags) ∷ os
-        same_counts s = refl
+  begins_reads os s = one_at (λ y. one_as (seeing s (Block (count s.names) (count s.tags) ∷ os) found y) [] refl refl refl (nothing_added s) (record { opened = refl; entry = refl }))
 
   ends_reads : {A : Type 0} (os : List Open) (names tags : ℕ) (b : A) (s : Typer) → Reads (At (Block names tags ∷ os) found) s (Ends ∷ []) (λ (b : A). At os found) (left_scope names tags b s)
   unfolding see
   ends_reads os names tags b s =
-      one (λ c. record { none = c.none })
-      (λ m ns ts h. one_as (record m { names = oldest names m.names; tags = oldest tags m.tags; opened = os }) [] (ap (λ (l : List Open). left l m) h.opened) refl
-      (ap (λ (k : Scope (Option Kind)). oldest names k) ns ∙ oldest_seen name_kind names s.names) (ap (λ (k : Scope Bool). oldest tags k) ts ∙ oldest_seen is_struct_tag tags s.tags) (nothing_added s)
-      (record { opened = refl; entry = h.entry }))
+      one_at (λ y. one_as (record { scene = within names tags (scene_of s); opened = os; last = y; entry = found }) [] refl refl
+      (ap (λ (k : Scope Meaning). record (scene_of s) { names = k; tags = oldest tags s.tags }) (oldest_seen meant names s.names)) (nothing_added s) (record { opened = refl; entry = refl }))
 
   scoped_reads : {A : Type 0} (os : List Open) (m : Typing A) (es : List Event) (s : Typer) →
       ((inner : List Open) → Reads (At inner found) s es (λ (b : A). At inner found) (m s)) → Reads (At os found) s (Begins ∷ (es ++ Ends ∷ [])) (λ (b : A). At os found) (scoped m s)
@@ -159,7 +147,7 @@ module _ (found : Bool) where
   -- ---- statements
   directive_reads : (os : List Open) (q : Pos) (y : Directive) (s : Typer) → Reads (At os found) s (in_directive q y) (λ (u : Unit {0}). At os found) (directive q y s)
   unfolding see
-  directive_reads os q d.Wait s = one (refused_clear 23 q s) (λ m ns ts h. refused_one 23 q m (fault 23 q ∷ []) refl refl ns ts (refused_noted 23 q s) h)
+  directive_reads os q d.Wait s = one (λ m e h. refused_one 23 q m (fault 23 q ∷ []) refl refl e (refused_noted 23 q s) h)
   directive_reads os q d.Partition s = quiet quiet_gives
   directive_reads os q (d.KnownFact y) s = quiet quiet_gives
   directive_reads os q (d.Assert y) s = quiet quiet_gives
@@ -183,12 +171,12 @@ module _ (found : Bool) where
 
   block_reads : (os : List Open) (is : List BlockItem) (s : Typer) → Reads (At os found) s (Begins ∷ (flat_map in_item is ++ Ends ∷ [])) (λ ss. At os found) (block is s)
   unfolding block
-  block_reads os is s = scoped_reads os (body.items is []) (flat_map in_item is) s (λ inner. all_parts (At inner found) item in_item (λ i ss s. item_reads inner i ss s) is [] s)
+  block_reads os is s = scoped_reads os (body.items is []) (flat_map in_item is) s (λ inner. all_parts (λ (ss : List Stmt). At inner found) item in_item (λ i ss s. item_reads inner i ss s) is [] s)
 
   -- ---- main
   stray_reads : (os : List Open) (c : Bool) (p : Pos) (s : Typer) → Reads (At os found) s (stray_if c p) (λ (u : Unit {0}). At os found) (refuse_if c 23 p s)
   unfolding see
-  stray_reads os true p s = one (refused_clear 23 p s) (λ m ns ts h. refused_one 23 p m (fault 23 p ∷ []) refl refl ns ts (refused_noted 23 p s) h)
+  stray_reads os true p s = one (λ m e h. refused_one 23 p m (fault 23 p ∷ []) refl refl e (refused_noted 23 p s) h)
   stray_reads os false p s = quiet quiet_gives
 
   by_reads : (os : List Open) (o : Option (List BlockItem)) (i : BlockItem) (b : Body) (s : Typer) → Reads (At os found) s (in_loop_or_item o i) (λ b. At os found) (main_by o i b s)

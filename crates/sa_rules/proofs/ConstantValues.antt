@@ -40,12 +40,13 @@ use Rattle.sa_scopes.specs.Scopes.{Scope, meaning_of}
 use Rattle.sa_scopes.specs.Types.{num_of, scalar, defined, tagged, type_name, alias, not_void, object}
 use Rattle.sa_scopes.specs.Typing.{Typed, Typing, Gives, and_then}
 use Rattle.sa_scopes.specs.Values.{literal_value, prefix_value, operator_value}
-use Rattle.sa_rules.specs.Sight.{Kind, alias_kind}
-use Rattle.sa_rules.specs.Values.{number_kind, cast_type, cast_as, linked_value, value_of, chain_value}
+use Rattle.sa_scopes.specs.declared.types.Ty.{Ty}
+use Rattle.sa_rules.specs.Scenes.{Meaning, named_type}
+use Rattle.sa_rules.specs.Values.{number_of, cast_type, cast_as, linked_value, value_of, chain_value}
 use Rattle.sa_rules.proofs.KeptNames.{Keeps, qualifiers_kept, opened_kept, closed_kept, first_kept, begins_kept, steps_kept, fields_kept, scalar_kept, tagged_kept, not_void_by}
 use Rattle.sa_rules.proofs.QuietParts.{beside_quiet, prefixed_quiet, cast_quiet, linked_quiet}
 use Rattle.sa_rules.proofs.Steps.{meaning_seen}
-use Rattle.sa_rules.proofs.Walks.{kind_of, name_kind, seen_as, state, value, Quiet}
+use Rattle.sa_rules.proofs.Walks.{meant, seen_as, state, value, Quiet}
 
 -- ---- operands
 prefixed_value : (op : Prefix) (p : Pos) (x : Operand) (s : Typer) → known_value (value (prefixed op p x s)) ≡ prefix_value op (known_value x)
@@ -53,10 +54,6 @@ prefixed_value op p (a.Number e num k) s = refl
 prefixed_value op p (a.Struct x k fixed q) s = refl
 prefixed_value op p (a.Array q) s = refl
 prefixed_value op p a.Unknown s = refl
-
-abbrev number_of : Element → Option Num
-number_of (el.Scalar num) = Some num
-number_of _ = None
 
 cast_to_value : (p : Pos) (num : Num) (x : Operand) (s : Typer) → known_value (value (cast_to p num x s)) ≡ cast_as (Some num) (known_value x)
 cast_to_value p num (a.Number e from k) s = refl
@@ -164,13 +161,7 @@ tagged_number : (p : Pos) (x : Name) (s : Typer) → number_of (value (tagged p 
 unfolding tagged
 tagged_number p x s = defined_number p (meaning_of s.tags x.text) s
 
-kind_number : (e : Element) → number_of e ≡ number_kind (kind_of e)
-kind_number el.Void = refl
-kind_number (el.Scalar num) = refl
-kind_number (el.Struct k) = refl
-kind_number el.Unknown = refl
-
-alias_number : (o : Option named.Named) → kind_of (alias o).element ≡ alias_kind (option_map name_kind o)
+alias_number : (o : Option named.Named) → alias o ≡ named_type (option_map meant o)
 alias_number None = refl
 alias_number (Some (n.Variable k)) = refl
 alias_number (Some (n.Input k num)) = refl
@@ -183,19 +174,19 @@ object_number p (el.Scalar num) c s = refl
 object_number p (el.Struct k) c s = refl
 object_number p el.Unknown c s = refl
 
-module _ (names : Scope (Option Kind)) where
+module _ (names : Scope Meaning) where
   -- what a walk gives where these names are visible, and they still are after it
   pub record Gets (s : Typer) {A : Type 0} (Q : A → Type 0) (t : Typed A) : Type 0 where
-    pub gets : seen_as name_kind s.names ≡ names → Q (value t) × (seen_as name_kind (state t).names ≡ names)
+    pub gets : seen_as meant s.names ≡ names → Q (value t) × (seen_as meant (state t).names ≡ names)
 
   gets_then : {A B : Type 0} {Q : A → Type 0} {R : B → Type 0} {s : Typer} {t : Typed A} {f : A → Typing B} → Gets s Q t → ((a : A) (u : Typer) → Q a → Gets u R (f a u)) → Gets s R (and_then t f)
   gets_then {t = Gives a u} m go = record { gets = λ h. let g = m.gets h in (go a u g.0).gets g.1 }
 
-  by_keeping : {A : Type 0} {Q : A → Type 0} {s : Typer} {t : Typed A} → Keeps s t → (seen_as name_kind s.names ≡ names → Q (value t)) → Gets s Q t
-  by_keeping k q = record { gets = λ h. (q h, ap (λ (x : _). seen_as name_kind x) k.names ∙ h) }
+  by_keeping : {A : Type 0} {Q : A → Type 0} {s : Typer} {t : Typed A} → Keeps s t → (seen_as meant s.names ≡ names → Q (value t)) → Gets s Q t
+  by_keeping k q = record { gets = λ h. (q h, ap (λ (x : _). seen_as meant x) k.names ∙ h) }
 
   by_quiet : {A : Type 0} {Q : A → Type 0} {s : Typer} {t : Typed A} → Quiet s t → Q (value t) → Gets s Q t
-  by_quiet k q = record { gets = λ h. (q, ap (λ (x : _). seen_as name_kind x) k.names ∙ h) }
+  by_quiet k q = record { gets = λ h. (q, ap (λ (x : _). seen_as meant x) k.names ∙ h) }
 
   unnoticed : {A : Type 0} {s : Typer} {t : Typed A} → Keeps s t → Gets s (λ (a : A). Unit {0}) t
   unnoticed k = by_keeping k (λ h. tt)
@@ -203,16 +194,16 @@ module _ (names : Scope (Option Kind)) where
   given : {A : Type 0} {Q : A → Type 0} {s : Typer} {b : A} → Q b → Gets s Q (Gives b s)
   given q = record { gets = λ h. (q, h) }
 
-  type_number : (x : Name) (s : Typer) → seen_as name_kind s.names ≡ names → number_of (value (type_name x s)).element ≡ number_kind (alias_kind (meaning_of names x.text))
+  type_number : (x : Name) (s : Typer) → seen_as meant s.names ≡ names → number_of (value (type_name x s)).element ≡ number_of (named_type (meaning_of names x.text)).element
   unfolding type_name
   type_number x s h =
-      kind_number (alias (meaning_of s.names x.text)).element
-      ∙ ap (λ (k : Kind). number_kind k) (alias_number (meaning_of s.names x.text) ∙ ap (λ (o : Option (Option Kind)). alias_kind o) (sym (meaning_seen name_kind s.names x.text) ∙ ap (λ (z : Scope (Option Kind)). meaning_of z x.text) h))
+      ap (λ (ty : Ty). number_of ty.element)
+      (alias_number (meaning_of s.names x.text) ∙ ap (λ (o : Option Meaning). named_type o) (sym (meaning_seen meant s.names x.text) ∙ ap (λ (z : Scope Meaning). meaning_of z x.text) h))
 
-  named_gets : (x : Name) (s : Typer) → Gets s (λ ty. number_of ty.element ≡ number_kind (alias_kind (meaning_of names x.text))) (type_name x s)
+  named_gets : (x : Name) (s : Typer) → Gets s (λ ty. number_of ty.element ≡ number_of (named_type (meaning_of names x.text)).element) (type_name x s)
   unfolding type_name
   named_gets x s = record { gets = λ h. (type_number x s h, kept_there x s ∙ h) } where
-    kept_there : (x : Name) (s : Typer) → seen_as name_kind (state (type_name x s)).names ≡ seen_as name_kind s.names
+    kept_there : (x : Name) (s : Typer) → seen_as meant (state (type_name x s)).names ≡ seen_as meant s.names
     kept_there x s = refl
 
   closed_number : (tag : Option Name) (i : Option ℕ) (f : _) (s : Typer) → number_of (value (def.closed tag i f s)).element ≡ None

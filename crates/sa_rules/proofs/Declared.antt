@@ -1,8 +1,8 @@
 -- Initialisers and declarations see and refuse what their events do.
 use Rattle.std.proofs.Common.{◌≡◌, ℕ, ◌+◌, Bool, true, false, not, ◌&&◌, List, [], ◌∷◌, ◌++◌, refl, sym, ap, subst, ◌∙◌, Option, Some, None}
-use Rattle.std.proofs.lemmas.List.Elements.{filter_map-append}
 use Rattle.std.specs.Prelude.{ℤ}
 use Rattle.sa_base.specs.declared.num.Num.{Num}
+use Rattle.sa_base.specs.declared.num.Num.TheVariants.{I32}
 use Rattle.sa_base.specs.declared.pos.Pos.{Pos}
 use Rattle.sa_syntax.specs.declared.decl.Declr.{out-Declr}
 use Rattle.sa_syntax.specs.declared.decl.Init as inits
@@ -34,88 +34,109 @@ use Rattle.sa_scopes.specs.declared.types.Ty.{Ty}
 use Rattle.sa_declarations.specs.Declarations.{initial, global_by, global, next_global, declared, input_type, input_by, are_bare, is_struct, begun_with, begun_by, begun, local_of, next_local, local}
 use Rattle.sa_operands.specs.Expressions.{expr}
 use Rattle.sa_scopes.specs.First.{expr_pos, init_pos}
-use Rattle.sa_scopes.specs.Forms.{form_of}
+use Rattle.sa_scopes.specs.Forms.{form_of, scalar}
+use Rattle.sa_scopes.specs.Scopes.{is_some}
 use Rattle.sa_declarations.specs.Initialisers.{item, within, valued, slotted, init, braced, values}
 use Rattle.sa_operands.specs.Operands.{sort_of, is_object, known_value, no_object}
 use Rattle.sa_scopes.specs.Structures.{slot}
 use Rattle.sa_scopes.specs.Types.{qualifier, qualifiers, is_misplaced, has_volatile, shape_of}
 use Rattle.sa_scopes.specs.Values.{constant}
-use Rattle.sa_scopes.specs.Typing.{Typing, Gives, and_then, each, refused, refuse_if, fault}
-use Rattle.sa_rules.specs.Events.{Event, Misplaced, Volatile_before_bare, Initial, Declares}
-use Rattle.sa_rules.specs.Rules.{place_of, refused_by, at_if}
-use Rattle.sa_rules.specs.Sight.{Kind, Open, see, is_structure}
+use Rattle.sa_scopes.specs.Typing.{Typed, Typing, Gives, and_then, each, refused, refuse_if, fault}
+use Rattle.sa_rules.specs.Events.{Event, Misplaced, Volatile_before_bare, Starts, Next_item, Begins_with, Initial, Filled, Declares}
+use Rattle.sa_rules.specs.Rules.{at_unless, unless_known_for, unfit, is_number}
+use Rattle.sa_rules.specs.Scenes.{number_if}
+use Rattle.sa_rules.specs.Sight.{Open, Group, For, Sight, see, or_int}
 use Rattle.sa_rules.specs.Values.{value_of}
-use Rattle.sa_rules.specs.Texts.{in_init, in_inits, in_local_init, in_start, in_global, at_file_scope, qualifiers_at_file_scope, in_globals, in_local_start, in_local_declr, in_local}
-use Rattle.sa_rules.proofs.Walks.{faults_at, name_kind, seen_as, state, value, then_here, Clear, Reads, Quiet, quiet_gives, quiet_refuses, quiet_then, quiet_unless, quiet, bind, ends, so, all_parts, refused_clear, refused_noted}
-use Rattle.sa_rules.proofs.Steps.{At, Last, forget, one, one_as, refused_one, nothing_added}
-use Rattle.sa_rules.proofs.Names.{variable_reads, input_reads}
+use Rattle.sa_rules.specs.Texts.{in_init, in_inits, in_local_init, starts_input_if, in_start, may_be_input, in_global, at_file_scope, qualifiers_at_file_scope, in_globals, in_local_start, in_local_declr, in_local}
+use Rattle.sa_rules.proofs.Walks.{broken, faults_at, meant, seen_as, state, value, then_here, Reads, quiet_gives, quiet_then, quiet_unless, quiet, bind, ends, event, all_parts, refused_noted}
+use Rattle.sa_rules.proofs.Steps.{At, Last, seeing, one, one_at, one_last, free_at, one_as, refused_one, nothing_added}
+use Rattle.sa_rules.proofs.Names.{group_begins, group_ends, variable_reads, input_reads}
 use Rattle.sa_rules.proofs.Qualifiers.{plain_qualifiers}
-use Rattle.sa_rules.proofs.QuietParts.{no_object_quiet, quiet_if}
-use Rattle.sa_rules.proofs.Dimensions.{known_there, constant_reads}
+use Rattle.sa_rules.proofs.Dimensions.{known_there, item_breaks, item_reads}
 use Rattle.sa_rules.proofs.Trees.{expr_reads, objects_reads, dimensions_reads}
 
 -- ---- initialisers
-within_quiet : (p : Pos) (num : Num) (o : Option ℤ) (s : Typer) → Quiet s (within p num o s)
-within_quiet p num None s = quiet_gives
-within_quiet p num (Some z) s = quiet_if (is_of num z) _ _ quiet_gives (quiet_refuses 20 p refl)
+module _ (found : Bool) where
+  no_number : (os : List Open) (e : Expr) (shape : Shape) (k : ℕ) (f : Form) (zs : List ℤ) (s : Typer) → form_of shape ≡ f → unless_known_for f (expr_pos e) (value_of (seen_as meant s.names) e) ≡ None →
+      unfit f (expr_pos e) (value_of (seen_as meant s.names) e) ≡ Some (expr_pos e) → Reads (At (For shape k ∷ os) found) s (Initial e ∷ []) (λ zs. At os found) (Gives zs (refused 20 (expr_pos e) s))
+  unfolding see
+  no_number os e shape k f zs s h a b =
+      one_at (λ y. refused_one 20 (expr_pos e) (seeing s os found y) (fault 20 (expr_pos e) ∷ []) refl
+      (item_breaks os found e shape k s f (value_of (seen_as meant s.names) e) y h refl
+      ∙ ap (λ (o : Option Pos). faults_at 18 o ++ (faults_at 20 (unfit f (expr_pos e) (value_of (seen_as meant s.names) e)) ++ [])) a ∙ ap (λ (o : Option Pos). faults_at 20 o ++ []) b) refl
+      (refused_noted 20 (expr_pos e) s) (record { opened = refl; entry = refl }))
 
--- after such a refusal an initialiser is refused
-not_clear : (p : Pos) (s : Typer) → Clear (refused 20 p s) → ⊥
-unfolding refused
-not_clear p s c = no_end (refused_by 20 s.faults) p (sym (filter_map-append (place_of 20) s.faults (fault 20 p ∷ [])) ∙ c.none) where
-  no_end : (xs : List Pos) (p : Pos) → xs ++ p ∷ [] ≡ [] → ⊥
-  no_end [] p h = cc
-  no_end (x ∷ xs) p h = cc
+  valued_reads : (os : List Open) (e : Expr) (shape : Shape) (k : ℕ) (f : Form) (i : Operand) (zs : List ℤ) (s : Typer) → form_of shape ≡ f → known_value i ≡ value_of (seen_as meant s.names) e →
+      Reads (At (For shape k ∷ os) found) s (Initial e ∷ []) (λ zs. At os found) (valued (expr_pos e) f i zs s)
+  valued_reads os e shape k (form.Scalar num) i zs s h g = ends (item_reads os found e shape k num i s h g) (λ z t. quiet_gives)
+  valued_reads os e shape k (form.Struct j) i zs s h g = no_number os e shape k (form.Struct j) zs s h refl refl
+  valued_reads os e shape k (form.Array n) i zs s h g = no_number os e shape k (form.Array n) zs s h refl refl
 
-module _ (os : List Open) (found : Bool) where
-  -- an item that has to be known
-  item_reads : (e : Expr) (num : Num) (i : Operand) (s : Typer) → known_value i ≡ value_of (seen_as name_kind s.names) e → Reads (At os found) s (Initial e ∷ []) (λ z. At os found) (item (expr_pos e) num i s)
-  unfolding item
-  item_reads e num i s h =
-      then_here (λ u t. and_then (constant (expr_pos e) (known_value i) t) (within (expr_pos e) num)) (quiet (no_object_quiet i s))
-      (ends (constant_reads os found e (known_value i) (state (no_object i s)) (ap (λ (names : _). value_of (seen_as name_kind names) e) (no_object_quiet i s).names ∙ sym h))
-      (λ o u. within_quiet (expr_pos e) num o u))
+  next_see : (os : List Open) (s : Typer) (p : Pos) (shape : Shape) (k : ℕ) (o : Option Shape) (y : Ty) → slot s.structs shape k ≡ o →
+      see (seeing s (For shape k ∷ os) found y) (Next_item p) ≡ seeing s (For (or_int o) 0 ∷ For shape (k + 1) ∷ os) found y
+  unfolding see
+  next_see os s p shape k o y h = ap (λ (z : Option Shape). seeing s (For (or_int z) 0 ∷ For shape (k + 1) ∷ os) found y) h
 
-  -- an item of which no number is made is refused as an initialiser
-  no_item : (p : Pos) (zs : List ℤ) (es : List Event) (s : Typer) → Reads (At os found) s es (λ zs. At os found) (Gives zs (refused 20 p s))
-  no_item p zs es s = record { clear = refused_clear 20 p s; reads = λ c n k x. absurd (not_clear p s c) }
+  -- an item
+  slotted_reads : (os : List Open) (p : Pos) (shape : Shape) (k : ℕ) (o : Option Shape) (m : Shape → Typing (List ℤ)) (es : List Event) (s : Typer) → slot s.structs shape k ≡ o →
+      ((inner : Shape) (t : Typer) → Reads (At (For inner 0 ∷ For shape (k + 1) ∷ os) found) t es (λ zs. At (For shape (k + 1) ∷ os) found) (m inner t)) →
+      Reads (At (For shape k ∷ os) found) s (Next_item p ∷ es) (λ zs. At (For shape (k + 1) ∷ os) found) (slotted p o m s)
+  unfolding see
+  slotted_reads os p shape k None m es s h one =
+      bind {xs = Next_item p ∷ []} {Y = λ (u : Unit {0}). At (For (scalar I32) 0 ∷ For shape (k + 1) ∷ os) found}
+      (one_at (λ y. refused_one 20 p (seeing s (For (scalar I32) 0 ∷ For shape (k + 1) ∷ os) found y) (fault 20 p ∷ []) (next_see os s p shape k None y h)
+      (ap (λ (z : Option Shape). faults_at 20 (at_unless (is_some z) p) ++ []) h) refl (refused_noted 20 p s) (record { opened = refl; entry = refl }))) (λ u t. one (scalar I32) t)
+  slotted_reads os p shape k (Some inner) m es s h one =
+      bind {xs = Next_item p ∷ []} {Y = λ (u : Unit {0}). At (For inner 0 ∷ For shape (k + 1) ∷ os) found} {t = Gives (tt {0}) s} {f = λ u. m inner}
+      (one_at (λ y. one_as (seeing s (For inner 0 ∷ For shape (k + 1) ∷ os) found y) [] (next_see os s p shape k (Some inner) y h)
+      (ap (λ (z : Option Shape). faults_at 20 (at_unless (is_some z) p) ++ []) h) refl (nothing_added s) (record { opened = refl; entry = refl }))) (λ u t. one inner t)
 
-  valued_reads : (e : Expr) (f : Form) (i : Operand) (zs : List ℤ) (s : Typer) → known_value i ≡ value_of (seen_as name_kind s.names) e →
-      Reads (At os found) s (Initial e ∷ []) (λ zs. At os found) (valued (expr_pos e) f i zs s)
-  valued_reads e (form.Scalar num) i zs s h = ends (item_reads e num i s h) (λ z t. quiet_gives)
-  valued_reads e (form.Struct k) i zs s h = no_item (expr_pos e) zs _ s
-  valued_reads e (form.Array n) i zs s h = no_item (expr_pos e) zs _ s
-
-  slotted_reads : (p : Pos) (o : Option Shape) (zs : List ℤ) (m : Shape → Typing (List ℤ)) (es : List Event) (s : Typer) → ((shape : Shape) → Reads (At os found) s es (λ zs. At os found) (m shape s)) →
-      Reads (At os found) s es (λ zs. At os found) (slotted p o zs m s)
-  slotted_reads p None zs m es s h = record { clear = refused_clear 20 p s; reads = λ c n k x. absurd (not_clear p s c) }
-  slotted_reads p (Some shape) zs m es s h = h shape
+  filled_reads : (os : List Open) (shape : Shape) (k : ℕ) (zs : List ℤ) (s : Typer) → Reads (At (For shape k ∷ os) found) s (Filled ∷ []) (λ zs. At os found) (Gives zs s)
+  unfolding see
+  filled_reads os shape k zs s = event {Z = At os found} (λ m a. free_at m (λ v y. record { scene = refl; broken = refl; post = record { opened = refl; entry = refl } }) a) (quiet quiet_gives)
 
   mutual
     unfolding init in_init
 
-    init_reads : (i : Init) (shape : Shape) (zs : List ℤ) (s : Typer) → Reads (At os found) s (in_init i) (λ zs. At os found) (init i shape zs s)
-    init_reads (Value e) shape zs s =
-        then_here (λ x. valued (expr_pos e) (form_of shape) x zs) (expr_reads found os e s) (valued_reads e (form_of shape) (value (expr e s)) zs (state (expr e s)) (known_there e s))
-    init_reads (Braces' p n row) shape zs s = braced_reads row p shape 0 zs s
+    init_reads : (os : List Open) (i : Init) (shape : Shape) (zs : List ℤ) (s : Typer) → Reads (At (For shape 0 ∷ os) found) s (in_init i) (λ zs. At os found) (init i shape zs s)
+    init_reads os (Value e) shape zs s =
+        then_here (λ x. valued (expr_pos e) (form_of shape) x zs) (expr_reads found (For shape 0 ∷ os) e s)
+        (valued_reads os e shape 0 (form_of shape) (value (expr e s)) zs (state (expr e s)) refl (known_there e s))
+    init_reads os (Braces' p n row) shape zs s = braced_reads os row p shape 0 zs s
 
-    braced_reads : {n : _} (row : Row_of-Init n) (p : Pos) (shape : Shape) (k : ℕ) (zs : List ℤ) (s : Typer) → Reads (At os found) s (in_inits row) (λ zs. At os found) (braced row p shape k zs s)
-    braced_reads end_of-Init p shape k zs s = quiet quiet_gives
-    braced_reads (more_of-Init i rest) p shape k zs s =
-        bind (slotted_reads p (slot s.structs shape k) zs (λ inner. init i inner zs) (in_init i) s (λ inner. init_reads i inner zs s)) (λ zs t. braced_reads rest p shape (k + 1) zs t)
+    braced_reads : {n : _} (os : List Open) (row : Row_of-Init n) (p : Pos) (shape : Shape) (k : ℕ) (zs : List ℤ) (s : Typer) → Reads (At (For shape k ∷ os) found) s (in_inits p row) (λ zs. At os found) (braced row p shape k zs s)
+    braced_reads os end_of-Init p shape k zs s = filled_reads os shape k _ s
+    braced_reads os (more_of-Init i rest) p shape k zs s =
+        bind (slotted_reads os p shape k (slot s.structs shape k) (λ inner. init i inner zs) (in_init i) s refl (λ inner t. init_reads (For shape (k + 1) ∷ os) i inner zs t)) (λ zs t. braced_reads os rest p shape (k + 1) zs t)
 
-  values_reads : (i : Init) (shape : Shape) (s : Typer) → Reads (At os found) s (in_init i) (λ zs. At os found) (values i shape s)
+  values_reads : (os : List Open) (i : Init) (shape : Shape) (s : Typer) → Reads (At (For shape 0 ∷ os) found) s (in_init i) (λ zs. At os found) (values i shape s)
   unfolding values
-  values_reads i shape s = ends (init_reads i shape [] s) (λ zs t. quiet_gives)
+  values_reads os i shape s = ends (init_reads os i shape [] s) (λ zs t. quiet_gives)
 
-  -- ---- the file scope
-  initial_reads : (volatile : Bool) (shape : Shape) (b : Begins) (s : Typer) → Reads (At os found) s (in_start b) (λ zs. At os found) (initial volatile shape b s)
-  initial_reads volatile shape begins.Nothing s = quiet quiet_gives
-  initial_reads volatile shape (begins.Init p i) s = bind (quiet (quiet_unless volatile 20 (init_pos i) refl)) (λ a t. values_reads i shape t)
+  starts : {A : Type 0} {s : Typer} {xs : List Event} {Y : A → Sight → Type 0} {t : Typed A} (os : List Open) (ty : Ty) (dims : List ℕ) → Reads (At (For (shape_of ty.element dims) 0 ∷ Group ty dims ∷ os) found) s xs Y t →
+      Reads (At (Group ty dims ∷ os) found) s (Starts ∷ xs) Y t
+  unfolding see
+  starts os ty dims h = event (λ m a. free_at m (λ v y. record { scene = refl; broken = refl; post = record { opened = refl; entry = refl } }) a) h
 
-  variable_by : (volatile : Bool) (ty : Ty) (x : Name) (shape : Shape) (b : Begins) (s : Typer) → Reads (At os found) s (in_start b ++ Declares x ∷ []) (λ a. At os found) (global_by None volatile ty x shape b s)
-  variable_by volatile ty x shape b s =
-      bind (initial_reads volatile shape b s) (λ zs t. ends (variable_reads os found x shape home.Global ty.constant zs t) (λ k u. quiet_gives))
+-- ---- the file scope
+module _ (os : List Open) (found : Bool) where
+  abbrev Of_group : Ty → List ℕ → Sight → Type 0
+  Of_group ty dims = At (Group ty dims ∷ os) found
+
+  starts_input : (X : Sight → Type 0) (b : Bool) (p : Pos) (s : Typer) → Reads X s (starts_input_if b p) (λ (u : Unit {0}). X) (refuse_if b 20 p s)
+  unfolding see
+  starts_input X true p s = one (λ m h x. refused_one 20 p m (fault 20 p ∷ []) refl refl h (refused_noted 20 p s) x)
+  starts_input X false p s = quiet quiet_gives
+
+  initial_reads : (volatile : Bool) (ty : Ty) (dims : List ℕ) (b : Begins) (s : Typer) → Reads (Of_group ty dims) s (in_start volatile b) (λ zs. Of_group ty dims) (initial volatile (shape_of ty.element dims) b s)
+  initial_reads volatile ty dims begins.Nothing s = quiet quiet_gives
+  initial_reads volatile ty dims (begins.Init p i) s =
+      bind (starts_input (Of_group ty dims) volatile (init_pos i) s) (λ a t. starts found os ty dims (values_reads found (Group ty dims ∷ os) i (shape_of ty.element dims) t))
+
+  variable_by : (volatile input : Bool) (ty : Ty) (x : Name) (dims : List ℕ) (b : Begins) (s : Typer) → number_if input ty.element dims ≡ None →
+      Reads (Of_group ty dims) s (in_start volatile b ++ Declares input x ∷ []) (λ a. Of_group ty []) (global_by None volatile ty x (shape_of ty.element dims) b s)
+  variable_by volatile input ty x dims b s h =
+      bind (initial_reads volatile ty dims b s) (λ zs t. ends (variable_reads os found x input ty dims home.Global zs t h) (λ k u. quiet_gives))
 
   no_input_by : (e : Element) (dims : List ℕ) (p : Pos) (i : Init) → input_by e dims (begins.Init p i) ≡ None
   no_input_by el.Void dims p i = refl
@@ -128,35 +149,43 @@ module _ (os : List Open) (found : Bool) where
   no_input true e dims p i = no_input_by e dims p i
   no_input false e dims p i = refl
 
-  bare_reads : (o : Option Num) (volatile : Bool) (ty : Ty) (x : Name) (shape : Shape) (s : Typer) → Reads (At os found) s (Declares x ∷ []) (λ a. At os found) (global_by o volatile ty x shape begins.Nothing s)
-  bare_reads (Some num) volatile ty x shape s = input_reads os found x num s
-  bare_reads None volatile ty x shape s = variable_by volatile ty x shape begins.Nothing s
+  same_input : (e : Element) (dims : List ℕ) → number_if true e dims ≡ input_by e dims begins.Nothing
+  same_input el.Void dims = refl
+  same_input (el.Scalar num) [] = refl
+  same_input (el.Scalar num) (d ∷ ds) = refl
+  same_input (el.Struct k) dims = refl
+  same_input el.Unknown dims = refl
 
-  start_reads : (volatile : Bool) (ty : Ty) (x : Name) (dims : List ℕ) (shape : Shape) (b : Begins) (s : Typer) →
-      Reads (At os found) s (in_start b ++ Declares x ∷ []) (λ a. At os found) (global_by (input_type volatile ty.element dims b) volatile ty x shape b s)
-  start_reads volatile ty x dims shape begins.Nothing s = bare_reads (input_type volatile ty.element dims begins.Nothing) volatile ty x shape s
-  start_reads volatile ty x dims shape (begins.Init p i) s =
-      subst (λ (o : Option Num). Reads (At os found) s (in_start (begins.Init p i) ++ Declares x ∷ []) (λ a. At os found) (global_by o volatile ty x shape (begins.Init p i) s))
-      (sym (no_input volatile ty.element dims p i)) (variable_by volatile ty x shape (begins.Init p i) s)
+  bare_reads : (o : Option Num) (ty : Ty) (x : Name) (dims : List ℕ) (s : Typer) → input_by ty.element dims begins.Nothing ≡ o →
+      Reads (Of_group ty dims) s (Declares true x ∷ []) (λ a. Of_group ty []) (global_by o true ty x (shape_of ty.element dims) begins.Nothing s)
+  bare_reads (Some num) ty x dims s h = input_reads os found x num ty dims s (same_input ty.element dims ∙ h)
+  bare_reads None ty x dims s h = variable_by true true ty x dims begins.Nothing s (same_input ty.element dims ∙ h)
 
-  global_reads : (volatile : Bool) (ty : Ty) (d : InitDeclr) (s : Typer) → Reads (At os found) s (in_global d) (λ a. At os found) (global volatile ty d s)
+  start_reads : (volatile : Bool) (ty : Ty) (x : Name) (dims : List ℕ) (b : Begins) (s : Typer) →
+      Reads (Of_group ty dims) s (in_start volatile b ++ Declares (may_be_input volatile b) x ∷ []) (λ a. Of_group ty []) (global_by (input_type volatile ty.element dims b) volatile ty x (shape_of ty.element dims) b s)
+  start_reads true ty x dims begins.Nothing s = bare_reads (input_by ty.element dims begins.Nothing) ty x dims s refl
+  start_reads false ty x dims begins.Nothing s = variable_by false false ty x dims begins.Nothing s refl
+  start_reads volatile ty x dims (begins.Init p i) s =
+      subst (λ (o : Option Num). Reads (Of_group ty dims) s (in_start volatile (begins.Init p i) ++ Declares false x ∷ []) (λ a. Of_group ty []) (global_by o volatile ty x (shape_of ty.element dims) (begins.Init p i) s))
+      (sym (no_input volatile ty.element dims p i)) (variable_by volatile false ty x dims (begins.Init p i) s refl)
+
+  global_reads : (volatile : Bool) (ty : Ty) (d : InitDeclr) (s : Typer) → Reads (Of_group ty []) s (in_global volatile d) (λ a. Of_group ty []) (global volatile ty d s)
   unfolding global in_global
   global_reads volatile ty d s =
-      bind (dimensions_reads found os (out-Declr d.declr).bounds s) (λ dims t. start_reads volatile ty (out-Declr d.declr).name dims (shape_of ty.element dims) d.start t)
+      bind (dimensions_reads found os ty (out-Declr d.declr).bounds s) (λ dims t. start_reads volatile ty (out-Declr d.declr).name dims d.start t)
 
   -- qualifiers at file scope
   bare_volatile : (e : Element) (p : Pos) (s : Typer) (c : Bool) → let ty : Ty = record { element = e; constant = c } in
       Reads (Last os found ty) s (Volatile_before_bare p ∷ []) (λ (u : Unit {0}). Last os found ty) (refuse_if (is_struct e) 21 p s)
   unfolding see
-  bare_volatile el.Void p s c = one (λ c. c) (λ m ns ts a. one_as m [] refl (ap (λ (k : Kind). faults_at 21 (at_if (is_structure k) p) ++ []) a.last) ns ts (nothing_added s) a)
-  bare_volatile (el.Scalar num) p s c = one (λ c. c) (λ m ns ts a. one_as m [] refl (ap (λ (k : Kind). faults_at 21 (at_if (is_structure k) p) ++ []) a.last) ns ts (nothing_added s) a)
-  bare_volatile el.Unknown p s c = one (λ c. c) (λ m ns ts a. one_as m [] refl (ap (λ (k : Kind). faults_at 21 (at_if (is_structure k) p) ++ []) a.last) ns ts (nothing_added s) a)
-  bare_volatile (el.Struct k) p s c =
-      one (refused_clear 21 p s) (λ m ns ts a. refused_one 21 p m (fault 21 p ∷ []) refl (ap (λ (k : Kind). faults_at 21 (at_if (is_structure k) p) ++ []) a.last) ns ts (refused_noted 21 p s) a)
+  bare_volatile el.Void p s c = one_last (one_as _ [] refl refl refl (nothing_added s) (record { opened = refl; entry = refl; last = refl }))
+  bare_volatile (el.Scalar num) p s c = one_last (one_as _ [] refl refl refl (nothing_added s) (record { opened = refl; entry = refl; last = refl }))
+  bare_volatile el.Unknown p s c = one_last (one_as _ [] refl refl refl (nothing_added s) (record { opened = refl; entry = refl; last = refl }))
+  bare_volatile (el.Struct k) p s c = one_last (refused_one 21 p _ (fault 21 p ∷ []) refl refl refl (refused_noted 21 p s) (record { opened = refl; entry = refl; last = refl }))
 
   misplaced_volatile : (ty : Ty) (p : Pos) (s : Typer) → Reads (Last os found ty) s (Misplaced p ∷ []) (λ (u : Unit {0}). Last os found ty) (refuse_if true 21 p s)
   unfolding see
-  misplaced_volatile ty p s = one (refused_clear 21 p s) (λ m ns ts a. refused_one 21 p m (fault 21 p ∷ []) refl refl ns ts (refused_noted 21 p s) a)
+  misplaced_volatile ty p s = one (λ m h a. refused_one 21 p m (fault 21 p ∷ []) refl refl h (refused_noted 21 p s) a)
 
   if_struct : (e : Element) → not (not (is_struct e) && true) ≡ is_struct e
   if_struct el.Void = refl
@@ -196,36 +225,55 @@ module _ (os : List Open) (found : Bool) where
   unfolding declared in_globals
   declared_reads ty ds s =
       bind (objects_reads found os ty s)
-      (λ y t. bind (so (file_qualifiers y (are_bare ds) (out-Specifiers ty).qualifiers t) (λ a m h. forget os found y m h))
-      (λ a u. all_parts (At os found) (next_global (has_volatile (out-Specifiers ty).qualifiers) y) in_global (λ d a s. global_reads (has_volatile (out-Specifiers ty).qualifiers) y d s) ds tt u))
+      (λ y t. bind (file_qualifiers y (are_bare ds) (out-Specifiers ty).qualifiers t)
+      (λ a u. group_begins os found y (group_ends (λ (a : Unit {0}). os) found y
+      (all_parts (λ (a : Unit {0}). Of_group y []) (next_global (has_volatile (out-Specifiers ty).qualifiers) y) (in_global (has_volatile (out-Specifiers ty).qualifiers))
+      (λ d a s. global_reads (has_volatile (out-Specifiers ty).qualifiers) y d s) ds tt u))))
 
   -- ---- locals
-  begun_with_quiet : (p q : Pos) (f : Form) (x : Operand) (s : Typer) → Quiet s (begun_with p q f x s)
-  begun_with_quiet p q (form.Scalar num) x s = quiet_then (quiet_unless (is_object (sort_of x)) 5 p refl) (λ a t. quiet_gives)
-  begun_with_quiet p q (form.Struct k) x s = quiet_refuses 20 q refl
-  begun_with_quiet p q (form.Array n) x s = quiet_refuses 20 q refl
+  begun_with_broken : (e : Expr) (shape : Shape) (f : Form) (m : Sight) → form_of shape ≡ f → broken (record m { opened = For shape 0 ∷ os }) (Begins_with e) ≡ faults_at 20 (at_unless (is_number f) (expr_pos e)) ++ []
+  begun_with_broken e shape f m h = ap (λ (g : Form). faults_at 20 (at_unless (is_number g) (expr_pos e)) ++ []) h
 
-  begun_by_reads : (p : Pos) (shape : Shape) (i : Init) (s : Typer) → Reads (At os found) s (in_local_init i) (λ b. At os found) (begun_by p shape i s)
+  begun_refused : {A : Type 0} {b : A} (e : Expr) (shape : Shape) (f : Form) (s : Typer) → form_of shape ≡ f → is_number f ≡ false →
+      Reads (At (For shape 0 ∷ os) found) s (Begins_with e ∷ []) (λ (b : A). At os found) (Gives b (refused 20 (expr_pos e) s))
+  unfolding see
+  begun_refused e shape f s h g =
+      one_at (λ y. refused_one 20 (expr_pos e) (seeing s os found y) (fault 20 (expr_pos e) ∷ []) refl
+      (begun_with_broken e shape f (seeing s os found y) h ∙ ap (λ (b : Bool). faults_at 20 (at_unless b (expr_pos e)) ++ []) g) refl (refused_noted 20 (expr_pos e) s) (record { opened = refl; entry = refl }))
+
+  begun_with_reads : (e : Expr) (p : Pos) (shape : Shape) (f : Form) (x : Operand) (s : Typer) → form_of shape ≡ f →
+      Reads (At (For shape 0 ∷ os) found) s (Begins_with e ∷ []) (λ b. At os found) (begun_with p (expr_pos e) f x s)
+  unfolding see
+  begun_with_reads e p shape (form.Scalar num) x s h =
+      event {Z = At os found}
+      (λ m a. free_at m (λ v y. record { scene = refl; broken = begun_with_broken e shape (form.Scalar num) (record { scene = v; opened = os; last = y; entry = found }) h; post = record { opened = refl; entry = refl } }) a)
+      (quiet (quiet_then (quiet_unless (is_object (sort_of x)) 5 p refl) (λ a t. quiet_gives)))
+  begun_with_reads e p shape (form.Struct k) x s h = begun_refused e shape (form.Struct k) s h refl
+  begun_with_reads e p shape (form.Array n) x s h = begun_refused e shape (form.Array n) s h refl
+
+  begun_by_reads : (p : Pos) (shape : Shape) (i : Init) (s : Typer) → Reads (At (For shape 0 ∷ os) found) s (in_local_init i) (λ b. At os found) (begun_by p shape i s)
   unfolding inits.out-Init denote.Hole.Carrier.out in_local_init in_init
-  begun_by_reads p shape (Value e) s = ends (expr_reads found os e s) (λ x t. begun_with_quiet p (expr_pos e) (form_of shape) x t)
-  begun_by_reads p shape (Braces' q n row) s = ends (values_reads (Braces' q n row) shape s) (λ zs t. quiet_gives)
+  begun_by_reads p shape (Value e) s = bind (expr_reads found (For shape 0 ∷ os) e s) (λ x t. begun_with_reads e p shape (form_of shape) x t refl)
+  begun_by_reads p shape (Braces' q n row) s = ends (values_reads found os (Braces' q n row) shape s) (λ zs t. quiet_gives)
 
-  begun_reads : (shape : Shape) (b : LocalStart) (s : Typer) → Reads (At os found) s (in_local_start b) (λ b. At os found) (begun shape b s)
+module _ (os : List Open) (found : Bool) where
+  begun_reads : (ty : Ty) (dims : List ℕ) (b : LocalStart) (s : Typer) → Reads (Of_group os found ty dims) s (in_local_start b) (λ b. Of_group os found ty dims) (begun (shape_of ty.element dims) b s)
   unfolding begun
-  begun_reads shape inner.Nothing s = quiet quiet_gives
-  begun_reads shape (inner.Init p i) s = begun_by_reads p shape i s
-  begun_reads shape (inner.Call p c) s = quiet quiet_gives
+  begun_reads ty dims inner.Nothing s = quiet quiet_gives
+  begun_reads ty dims (inner.Init p i) s = starts found os ty dims (begun_by_reads (Group ty dims ∷ os) found p (shape_of ty.element dims) i s)
+  begun_reads ty dims (inner.Call p c) s = quiet quiet_gives
 
-  local_of_reads : (ty : Ty) (d : LocalDeclr) (s : Typer) → Reads (At os found) s (in_local_declr d) (λ a. At os found) (local_of ty d s)
+  local_of_reads : (ty : Ty) (d : LocalDeclr) (s : Typer) → Reads (Of_group os found ty []) s (in_local_declr d) (λ a. Of_group os found ty []) (local_of ty d s)
   unfolding local_of in_local_declr
   local_of_reads ty d s =
-      bind (dimensions_reads found os (out-Declr d.declr).bounds s)
-      (λ dims t. bind (begun_reads (shape_of ty.element dims) d.start t)
-      (λ b u. ends (variable_reads os found (out-Declr d.declr).name (shape_of ty.element dims) (home.Local 0) ty.constant b.initial u) (λ k v. quiet_gives)))
+      bind (dimensions_reads found os ty (out-Declr d.declr).bounds s)
+      (λ dims t. bind (begun_reads ty dims d.start t)
+      (λ b u. ends (variable_reads os found (out-Declr d.declr).name false ty dims (home.Local 0) b.initial u refl) (λ k v. quiet_gives)))
 
   pub local_reads : (l : Local) (stmts : List Stmt) (s : Typer) → Reads (At os found) s (in_local l) (λ a. At os found) (local l stmts s)
   unfolding local in_local
   local_reads l stmts s =
       bind (plain_qualifiers (At os found) (out-Specifiers l.ty).qualifiers s)
-      (λ a t. bind (so (objects_reads found os l.ty t) (λ y m h. forget os found y m h))
-      (λ ty u. all_parts (At os found) (next_local ty) in_local_declr (λ d all s. ends (local_of_reads ty d s) (λ b v. quiet_gives)) l.declrs stmts u))
+      (λ a t. bind (objects_reads found os l.ty t)
+      (λ ty u. group_begins os found ty (group_ends (λ (a : List Stmt). os) found ty
+      (all_parts (λ (a : List Stmt). Of_group os found ty []) (next_local ty) in_local_declr (λ d all s. ends (local_of_reads ty d s) (λ b v. quiet_gives)) l.declrs stmts u))))

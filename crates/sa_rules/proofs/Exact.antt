@@ -86,7 +86,7 @@ module _ (rule : Rule) where
   is_placed m (f ∷ front) e rest p h = passes (rule m f) p (places rule (see m f) (front ++ e ∷ rest)) (is_placed (see m f) front e rest p h)
 
   pub exact : (c : ℕ) → (c == c) ≡ true → IsRule c rule → IsExact c rule
-  exact c own law u end h p = (
-    λ g. is_broken _ _ p (subst (λ (ps : List Pos). Contains ps p) (law u end h) (is_listed c _ p own g)),
-    λ b. found c _ p (subst (λ (ps : List Pos). Contains ps p) (sym (law u end h)) (subst (λ (es : List Event). Contains (places rule nothing_seen es) p) (sym b.is) (is_placed nothing_seen b.front b.event b.rest p b.at))),
+  exact c own law u end p = (
+    λ g. is_broken _ _ p (subst (λ (ps : List Pos). Contains ps p) (law u end) (is_listed c _ p own g)),
+    λ b. found c _ p (subst (λ (ps : List Pos). Contains ps p) (sym (law u end)) (subst (λ (es : List Event). Contains (places rule nothing_seen es) p) (sym b.is) (is_placed nothing_seen b.front b.event b.rest p b.at))),
   )

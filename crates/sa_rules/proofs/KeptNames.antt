@@ -32,13 +32,18 @@ use Rattle.sa_operands.specs.Definitions.{no_fields}
 use Rattle.sa_operands.specs.Expressions.{expr, links, steps, step, base_type, structure, fields, field, declrs, declr, bounds, beside_first}
 use Rattle.sa_scopes.specs.First.{expr_pos}
 use Rattle.sa_operands.specs.Operands.{prefix_of, left_of, known_value}
-use Rattle.sa_operands.specs.Places.{root_by, pointed_by, begins}
+use Rattle.sa_scopes.specs.declared.form.Form.{Form}
+use Rattle.sa_scopes.specs.declared.form.Form.TheVariants as form
+use Rattle.sa_scopes.specs.declared.structs.Member.{Member}
+use Rattle.sa_scopes.specs.Structures.{member_of}
+use Rattle.sa_operands.specs.Places as places
+use Rattle.sa_operands.specs.Places.{root_by, pointed_by, begins, to_member, field_of, form_at}
 use Rattle.sa_scopes.specs.Scopes.{meaning_of, is_visible, with_name, count}
 use Rattle.sa_scopes.specs.Types.{num_of, qualifier, qualifiers, is_misplaced, scalar, defined, tagged, type_name, not_void, object}
 use Rattle.sa_scopes.specs.Typing.{Typed, Typing, Gives, and_then, each, pure, refuse, refused, refuse_if, ◌>>◌}
 use Rattle.sa_scopes.specs.Values.{constant}
 use Rattle.sa_rules.proofs.Walks.{state, Quiet}
-use Rattle.sa_rules.proofs.QuietParts.{no_object_quiet, beside_quiet, prefixed_quiet, cast_quiet, linked_quiet, index_quiet, field_quiet, arrow_quiet}
+use Rattle.sa_rules.proofs.QuietParts.{no_object_quiet, beside_quiet, prefixed_quiet, cast_quiet, linked_quiet, index_quiet, arrow_quiet}
 
 pub record Keeps (s : Typer) {A : Type 0} (t : Typed A) : Type 0 where
   pub names : (state t).names ≡ s.names
@@ -132,6 +137,20 @@ pub first_kept : {n : _} (row : Row_of-Link n) (x : Expr) (s : Typer) → Keeps 
 first_kept end_of-Link x s = kept
 first_kept (more_of-Link op q y rest) x s = still (beside_quiet op x s)
 
+to_member_kept : (p : Pos) (o : Option Member) (l : Spot) (s : Typer) → Keeps s (to_member p o l s)
+to_member_kept p None l s = kept_refused 4 p
+to_member_kept p (Some m) l s = kept
+
+field_of_kept : (p : Pos) (x : Name) (o : Option Form) (l : Spot) (s : Typer) → Keeps s (field_of p x o l s)
+field_of_kept p x None l s = kept
+field_of_kept p x (Some (form.Struct k)) l s = to_member_kept x.pos (member_of s.structs k x.text) l s
+field_of_kept p x (Some (form.Scalar num)) l s = kept_refused 5 p
+field_of_kept p x (Some (form.Array count)) l s = kept_refused 5 p
+
+field_kept : (p : Pos) (x : Name) (l : Spot) (s : Typer) → Keeps s (places.field p x l s)
+unfolding places.field
+field_kept p x l s = field_of_kept p x (form_at l) l s
+
 constant_kept : (p : Pos) (w : Value) (s : Typer) → Keeps s (constant p w s)
 constant_kept p v.Varies s = kept_refused 18 p
 constant_kept p v.Errs s = kept_refused 18 p
@@ -174,7 +193,7 @@ mutual
 
   step_kept : (x : Step) (l : Spot) (s : Typer) → Keeps s (step x l s)
   step_kept (Index' q n (more_of-Expr x end_of-Expr)) l s = kept_then (expr_kept x s) (λ i t. still (index_quiet q i l t))
-  step_kept (Field q x) l s = still (field_quiet q x l s)
+  step_kept (Field q x) l s = field_kept q x l s
   step_kept (Arrow q x) l s = still (arrow_quiet q l s)
 
   pub base_kept : (q : Pos) (b : base.Base) (s : Typer) → Keeps s (base_type q b s)

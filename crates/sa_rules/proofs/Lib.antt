@@ -6,6 +6,7 @@ pub mod Qualifiers
 pub mod KeptNames
 pub mod ConstantValues
 pub mod Dimensions
+pub mod Places
 pub mod Trees
 pub mod Declared
 pub mod Blocks

@@ -9,13 +9,13 @@ use Rattle.sa_scopes.specs.Types.{qualifier, qualifiers, is_misplaced}
 use Rattle.sa_scopes.specs.Typing.{each, refuse_if, fault}
 use Rattle.sa_rules.specs.Events.{is_volatile, is_no_const, misplaced, misplaced_if}
 use Rattle.sa_rules.specs.Sight.{Sight, see}
-use Rattle.sa_rules.proofs.Walks.{Reads, quiet_gives, quiet, bind, refused_clear, refused_noted}
+use Rattle.sa_rules.proofs.Walks.{Reads, quiet_gives, quiet, bind, refused_noted}
 use Rattle.sa_rules.proofs.Steps.{one, refused_one}
 
 module _ (X : Sight → Type 0) where
   qualifier_by : (b : Bool) (p : Pos) (s : Typer) → Reads X s (misplaced_if b p) (λ (u : Unit {0}). X) (refuse_if b 21 p s)
   unfolding see
-  qualifier_by true p s = one (refused_clear 21 p s) (λ m ns ts x. refused_one 21 p m (fault 21 p ∷ []) refl refl ns ts (refused_noted 21 p s) x)
+  qualifier_by true p s = one (λ m h x. refused_one 21 p m (fault 21 p ∷ []) refl refl h (refused_noted 21 p s) x)
   qualifier_by false p s = quiet quiet_gives
 
   all_reads : (volatile static : Bool) (wrong : Qualifier → Bool) → ((w : Qualifier) → is_misplaced volatile static w ≡ wrong w) → (qs : List Qualified) (u : Unit {0}) (s : Typer) →

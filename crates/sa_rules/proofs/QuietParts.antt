@@ -1,9 +1,8 @@
--- Helpers of typing that do nothing with names and tags, and refuse with other codes only.
+-- Helpers of typing that do nothing with what is visible, and refuse with other codes only.
 use Rattle.std.proofs.Common.{◌≡◌, ℕ, Bool, true, false, refl, Option, Some, None}
 use Rattle.std.specs.Prelude.{if◌then◌else◌}
 use Rattle.sa_base.specs.declared.num.Num.{Num}
 use Rattle.sa_base.specs.declared.pos.Pos.{Pos}
-use Rattle.sa_syntax.specs.declared.decl.Name.{Name}
 use Rattle.sa_syntax.specs.declared.expr.Expr as tree
 use Rattle.sa_syntax.specs.declared.expr.Operator as from
 use Rattle.sa_typed.specs.declared.expr.Expr.{Expr}
@@ -17,13 +16,11 @@ use Rattle.sa_operands.specs.declared.operand.Operand.TheVariants as a
 use Rattle.sa_operands.specs.declared.operand.Sort.{Sort}
 use Rattle.sa_operands.specs.declared.operand.Sort.TheVariants as sort
 use Rattle.sa_operands.specs.declared.operand.Spot.{Spot}
-use Rattle.sa_scopes.specs.declared.structs.Member.{Member}
 use Rattle.sa_scopes.specs.declared.typer.Typer.{Typer}
 use Rattle.sa_scopes.specs.declared.types.Element.{Element}
 use Rattle.sa_scopes.specs.declared.types.Element.TheVariants as el
 use Rattle.sa_operands.specs.Operands.{no_object, with_threshold, beside, is_comparison, by_itself, prefixed, no_number, cast, cast_to, miscast, linked, sort_of, is_object, expr_or}
-use Rattle.sa_operands.specs.Places.{index, element_of, field, field_of, to_member, arrow, is_known, form_at, indexed_with}
-use Rattle.sa_scopes.specs.Structures.{member_of}
+use Rattle.sa_operands.specs.Places.{index, element_of, arrow, is_known, form_at, indexed_with}
 use Rattle.sa_scopes.specs.Typing.{Typing}
 use Rattle.sa_rules.proofs.Walks.{Quiet, quiet_gives, quiet_refuses, quiet_then, quiet_unless}
 
@@ -41,7 +38,7 @@ no_object_quiet a.Unknown s = quiet_gives
 -- ---- operators
 threshold_quiet : (o : Option ℕ) (s : Typer) → Quiet s (with_threshold o s)
 threshold_quiet None s = quiet_gives
-threshold_quiet (Some x) s = record { names = refl; tags = refl; faults = refl; clear = λ c. record { none = c.none } }
+threshold_quiet (Some x) s = record { scene = refl; names = refl; faults = refl }
 
 pub beside_quiet : (op : from.Operator) (x : tree.Expr) (s : Typer) → Quiet s (beside op x s)
 unfolding beside
@@ -98,20 +95,6 @@ element_quiet p i (Some (form.Struct k)) l s = quiet_refuses 5 p refl
 pub index_quiet : (p : Pos) (i : Operand) (l : Spot) (s : Typer) → Quiet s (index p i l s)
 unfolding index
 index_quiet p i l s = quiet_then (quiet_unless (is_object (sort_of i)) 5 p refl) (λ a t. element_quiet p (expr_or i) (form_at l) (indexed_with i l) t)
-
-member_quiet : (p : Pos) (o : Option Member) (l : Spot) (s : Typer) → Quiet s (to_member p o l s)
-member_quiet p None l s = quiet_refuses 4 p refl
-member_quiet p (Some m) l s = quiet_gives
-
-field_of_quiet : (p : Pos) (x : Name) (o : Option Form) (l : Spot) (s : Typer) → Quiet s (field_of p x o l s)
-field_of_quiet p x None l s = quiet_gives
-field_of_quiet p x (Some (form.Struct k)) l s = member_quiet x.pos (member_of s.structs k x.text) l s
-field_of_quiet p x (Some (form.Scalar num)) l s = quiet_refuses 5 p refl
-field_of_quiet p x (Some (form.Array count)) l s = quiet_refuses 5 p refl
-
-pub field_quiet : (p : Pos) (x : Name) (l : Spot) (s : Typer) → Quiet s (field p x l s)
-unfolding field
-field_quiet p x l s = field_of_quiet p x (form_at l) l s
 
 pub arrow_quiet : (p : Pos) (l : Spot) (s : Typer) → Quiet s (arrow p l s)
 unfolding arrow

@@ -4,6 +4,7 @@ use Rattle.std.proofs.lemmas.List.Elements.{Contains-push_cases}
 use Rattle.std.specs.List.{Contains, flat_map}
 use Rattle.std.specs.Prelude.{ℤ, if◌then◌else◌}
 use Rattle.sa_base.specs.declared.num.Num.{Num}
+use Rattle.sa_base.specs.declared.num.Num.TheVariants.{I32}
 use Rattle.sa_base.specs.declared.pos.Pos.{Pos}
 use Rattle.sa_syntax.specs.declared.decl.Declr.{out-Declr}
 use Rattle.sa_syntax.specs.declared.decl.Init as inits
@@ -43,7 +44,7 @@ use Rattle.sa_typer.specs.Bodies as body
 use Rattle.sa_typer.specs.Bodies.{block, no_body, main_by, main_item, main_items, main_block, clock_loop}
 use Rattle.sa_declarations.specs.Declarations.{initial, global_by, global, next_global, declared, input_type, are_bare, is_struct, begun_by, begun, local_of, next_local, local}
 use Rattle.sa_scopes.specs.First.{expr_pos, init_pos, place_pos, item_pos}
-use Rattle.sa_scopes.specs.Forms.{form_of}
+use Rattle.sa_scopes.specs.Forms.{form_of, scalar}
 use Rattle.sa_declarations.specs.Initialisers.{slotted, init, braced, values}
 use Rattle.sa_scopes.specs.Scopes.{is_visible}
 use Rattle.sa_typer.specs.Statements.{compound_of, turn_of, one as just_one, left_side, simple, scoped, directive, stmt, items, item}
@@ -61,9 +62,9 @@ use Rattle.sa_rules.proofs.Walks.{state}
 
 module _ (P : Fault → Type 0) (free : (k : ℕ) (q : Pos) → is_sited k ≡ false → P (fault k q)) where
   -- ---- initialisers
-  slotted_adds : (p : Pos) (o : Option Shape) (zs : List ℤ) (m : Shape → Typing (List ℤ)) (s : Typer) → P (fault 20 p) → ((shape : Shape) → Adds P s (m shape s)) → Adds P s (slotted p o zs m s)
-  slotted_adds p None zs m s k h = adds_refusal P 20 p k
-  slotted_adds p (Some shape) zs m s k h = h shape
+  slotted_adds : (p : Pos) (o : Option Shape) (m : Shape → Typing (List ℤ)) (s : Typer) → P (fault 20 p) → ((shape : Shape) (t : Typer) → Adds P t (m shape t)) → Adds P s (slotted p o m s)
+  slotted_adds p None m s k h = adds_then P {A = Unit {0}} (adds_refusal P {a = tt} 20 p k) (λ u t. h (scalar I32) t)
+  slotted_adds p (Some shape) m s k h = h shape s
 
   mutual
     unfolding init of_init
@@ -76,7 +77,7 @@ module _ (P : Fault → Type 0) (free : (k : ℕ) (q : Pos) → is_sited k ≡ f
     braced_adds : {n : _} (row : Row_of-Init n) (p : Pos) (shape : Shape) (k : ℕ) (zs : List ℤ) (s : Typer) → P (fault 20 p) → Sub P (of_inits row) → Adds P s (braced row p shape k zs s)
     braced_adds end_of-Init p shape k zs s f h = adds_none P
     braced_adds (more_of-Init i rest) p shape k zs s f h =
-        adds_then P (slotted_adds p (slot s.structs shape k) zs (λ inner. init i inner zs) s f (λ inner. init_adds i inner zs s (sub_left (of_init i) (of_inits rest) h)))
+        adds_then P (slotted_adds p (slot s.structs shape k) (λ inner. init i inner zs) s f (λ inner t. init_adds i inner zs t (sub_left (of_init i) (of_inits rest) h)))
         (λ zs t. braced_adds rest p shape (k + 1) zs t f (sub_right (of_init i) (of_inits rest) h))
 
   values_adds : (i : Init) (shape : Shape) (s : Typer) → Sub P (of_init i) → Adds P s (values i shape s)

@@ -1,6 +1,5 @@
 -- A whole source sees and refuses what its events do.
 use Rattle.std.proofs.Common.{◌≡◌, Bool, true, false, ◌&&◌, List, [], ◌∷◌, ◌++◌, refl, sym, ap, subst, ◌∙◌, Option, Some, None}
-use Rattle.std.proofs.lemmas.List.Elements.{filter_map-append}
 use Rattle.std.specs.Prelude.{if◌then◌else◌}
 use Rattle.sa_base.specs.declared.pos.Pos.{Pos}
 use Rattle.sa_syntax.specs.declared.decl.Name.{Name}
@@ -12,22 +11,22 @@ use Rattle.sa_syntax.specs.declared.unit.Item.TheVariants as top
 use Rattle.sa_syntax.specs.declared.unit.Unit.{Unit as Source}
 use Rattle.sa_typer.specs.declared.bodies.Entry.{Entry}
 use Rattle.sa_scopes.specs.declared.typer.Typer.{Typer}
-use Rattle.sa_scopes.specs.declared.types.Element.{Element}
-use Rattle.sa_scopes.specs.declared.types.Element.TheVariants as el
 use Rattle.sa_scopes.specs.declared.types.Named.TheVariants as n
 use Rattle.sa_scopes.specs.declared.types.Ty.{Ty}
 use Rattle.sa_declarations.specs.Declarations.{is_struct}
-use Rattle.sa_scopes.specs.Scopes.{Scope, is_visible}
+use Rattle.sa_scopes.specs.Scopes.{is_visible}
 use Rattle.sa_scopes.specs.Typing.{Typed, Typing, Gives, and_then, pure, each, refused, fault}
 use Rattle.sa_typer.specs.Units as unit
 use Rattle.sa_typer.specs.Units.{plain_type, type_name, is_main, entry, first_main, main, blank, is_entry_type, is_entry, has_entry, all_items, refusals}
-use Rattle.sa_rules.specs.Events.{Event, Aliases, Declares, Main}
-use Rattle.sa_rules.specs.Rules.{at_if, place_of, refused_by, HasNoBadInitialiser}
-use Rattle.sa_rules.specs.Sight.{Kind, Sight, nothing_seen, see, after, gives_int, declared_unless}
+use Rattle.sa_rules.specs.Events.{Event, Aliases, Defines, Main}
+use Rattle.sa_rules.specs.Rules.{at_if}
+use Rattle.sa_rules.specs.Scenes as scene
+use Rattle.sa_rules.specs.Scenes.{Scene, with_name_unless}
+use Rattle.sa_rules.specs.Sight.{Sight, nothing_seen, see, after}
 use Rattle.sa_rules.specs.Texts.{in_plain, in_body, in_func, in_top, in_tops, has_loop, text}
-use Rattle.sa_rules.proofs.Walks.{Noted, note, noting, noting_append, noted, faults_at, kind_of, Same, Clear, state, value, Reads, quiet_unless, quiet, bind, then_here, left_empty, refused_clear, refused_noted}
-use Rattle.sa_rules.proofs.Steps.{At, Last, one, one_as, refused_one, nothing_added}
-use Rattle.sa_rules.proofs.Names.{named_reads, aliases_reads}
+use Rattle.sa_rules.proofs.Walks.{Noted, note, noting, noting_append, noted, faults_at, scene_of, Same, state, value, Reads, quiet_unless, quiet, bind, then_here, refused_noted}
+use Rattle.sa_rules.proofs.Steps.{At, Last, seeing, one_last, one_as, refused_one, nothing_added}
+use Rattle.sa_rules.proofs.Names.{defines_see, defines_reads, aliases_reads}
 use Rattle.sa_rules.proofs.Qualifiers.{plain_qualifiers}
 use Rattle.sa_rules.proofs.Trees.{structure_reads, type_reads}
 use Rattle.sa_rules.proofs.Declared.{declared_reads}
@@ -36,15 +35,14 @@ use Rattle.sa_rules.proofs.Blocks.{main_block_reads, main_clock}
 -- what is given at the end is made of what the walk gave
 ends_in : {A B : Type 0} {X Y : Sight → Type 0} {Z : B → Sight → Type 0} {s : Typer} {es : List Event} {t : Typed A} (f : A → B) → ((m : Sight) → Y m → Z (f (value t)) m) →
     Reads X s es (λ (a : A). Y) t → Reads X s es Z (and_then t (λ a. pure (f a)))
-ends_in {t = Gives c u} f k h = record { clear = h.clear; reads = λ e m r y. let q = h.reads e m r y in (q.0, k _ q.1) }
+ends_in {t = Gives c u} f k h = record { reads = λ m r y. let q = h.reads m r y in (q.0, k _ q.1) }
 
 -- ---- events by what was seen before
 pub record ReadsBy (X : Sight → Type 0) (s : Typer) (es : Sight → List Event) {A : Type 0} (Y : A → Sight → Type 0) (t : Typed A) : Type 0 where
-  pub clear : Clear (state t) → Clear s
-  pub reads : Clear (state t) → (m : Noted) → Same s m → X m.sight → Same (state t) (noting m (es m.sight)) × Y (value t) (noting m (es m.sight)).sight
+  pub reads : (m : Noted) → Same s m → X m.sight → Same (state t) (noting m (es m.sight)) × Y (value t) (noting m (es m.sight)).sight
 
 by : {X : Sight → Type 0} {s : Typer} {es : List Event} {A : Type 0} {Y : A → Sight → Type 0} {t : Typed A} → Reads X s es Y t → ReadsBy X s (λ k. es) Y t
-by h = record { clear = h.clear; reads = λ c m r x. h.reads c m r x }
+by h = record { reads = λ m r x. h.reads m r x }
 
 pub sight_after : (m : Noted) (es : List Event) → (noting m es).sight ≡ after m.sight es
 unfolding note
@@ -57,11 +55,10 @@ bind_by : {A B : Type 0} {X : Sight → Type 0} {s : Typer} {xs ys : Sight → L
 bind_by {xs = xs} {ys = ys} {Z = Z} {t = Gives a u} {f = f} m go =
     let g = go a u in
     record {
-      clear = λ c. m.clear (g.clear c);
-      reads = λ c n h x.
-          let k = m.reads (g.clear c) n h x in
+      reads = λ n h x.
+          let k = m.reads n h x in
           let es = xs n.sight in
-          let r = g.reads c (noting n es) k.0 k.1 in
+          let r = g.reads (noting n es) k.0 k.1 in
           let same : noting (noting n es) (ys (noting n es).sight) ≡ noting n (es ++ ys (after n.sight es)) =
           ap (λ (l : Sight). noting (noting n es) (ys l)) (sight_after n es) ∙ sym (noting_append n es (ys (after n.sight es))) in
           subst (λ (l : Noted). Same (state (f a u)) l × Z (value (f a u)) l.sight) same r;
@@ -78,58 +75,46 @@ typedef_reads : (found : Bool) (ty : Specifiers) (x : Name) (s : Typer) → Read
 unfolding type_name
 typedef_reads found ty x s = bind (plain_reads found ty s) (λ t u. aliases_reads [] found x t u)
 
-main_event : (found clock : Bool) (ty : Ty) (s : Typer) → Reads (Last [] found ty) s (Main clock ∷ []) (λ u. At [] (clock && gives_int (kind_of ty.element))) (Gives (tt {0}) s)
+main_event : (found clock : Bool) (ty : Ty) (s : Typer) → Reads (Last [] found ty) s (Main clock ∷ []) (λ u. At [] (clock && is_entry_type ty.element)) (Gives (tt {0}) s)
 unfolding see
-main_event found clock ty s =
-    one (λ c. c)
-    (λ m ns ts a. one_as (record m { entry = clock && gives_int m.last }) [] refl refl ns ts (nothing_added s) (record { opened = a.opened; entry = ap (λ (k : Kind). clock && gives_int k) a.last }))
-
-entry_kind : (e : Element) → gives_int (kind_of e) ≡ is_entry_type e
-entry_kind el.Void = refl
-entry_kind (el.Scalar num) = refl
-entry_kind (el.Struct k) = refl
-entry_kind el.Unknown = refl
+main_event found clock ty s = one_last (one_as (seeing s [] (clock && is_entry_type ty.element) ty) [] refl refl refl (nothing_added s) (record { opened = refl; entry = refl }))
 
 first_main_reads : (found : Bool) (x : Name) (ty : Ty) (b : Block) (s : Typer) → Reads (Last [] found ty) s (in_body x (out-Block b).items) Entered (first_main x ty b s)
 first_main_reads found x ty b s =
     let is : List BlockItem = (out-Block b).items in
-    let now : Bool = has_loop false is && gives_int (kind_of ty.element) in
+    let now : Bool = has_loop false is && is_entry_type ty.element in
     then_here (λ u t. first_main x ty b t) (main_event found (has_loop false is) ty s)
-    (bind (named_reads [] now x n.Function s refl)
+    (bind (defines_reads [] now x s)
     (λ u t. bind (quiet (quiet_unless (is_struct ty.element) 5 x.pos refl))
     (λ v w. ends_in (λ body. Some (entry x ty body))
     (λ m h. record {
       opened = h.opened;
-      entry = h.entry ∙ ap (λ (k : Bool). has_loop false is && k) (entry_kind ty.element) ∙ ap (λ (c : Bool). c && is_entry_type ty.element) (sym (main_clock is w));
+      entry = h.entry ∙ ap (λ (c : Bool). c && is_entry_type ty.element) (sym (main_clock is w));
     }) (main_block_reads now [] is w))))
 
-again_by : (x : Name) (found : Option Entry) (s : Typer) → is_visible s.names x.text ≡ true → Reads (Entered found) s (Declares x ∷ []) Entered (Gives found (refused 2 x.pos s))
+again_by : (x : Name) (ty : Ty) (found : Option Entry) (s : Typer) → is_visible s.names x.text ≡ true → Reads (Last [] (has_entry found) ty) s (Defines x ∷ []) Entered (Gives found (refused 2 x.pos s))
 unfolding see
-again_by x found s h =
-    one (refused_clear 2 x.pos s)
-    (λ m ns ts a. let v = ap (λ (k : Scope (Option Kind)). is_visible k x.text) ns ∙ h in
-    refused_one 2 x.pos m (fault 2 x.pos ∷ []) (ap (λ (b : Bool). declared_unless b x.text None m) v) (ap (λ (b : Bool). faults_at 2 (at_if b x.pos) ++ []) v) ns ts (refused_noted 2 x.pos s) a)
+again_by x ty found s h =
+    one_last (refused_one 2 x.pos (seeing s [] (has_entry found) ty) (fault 2 x.pos ∷ []) (defines_see [] (has_entry found) s x true ty h)
+    (ap (λ (b : Bool). faults_at 2 (at_if b x.pos) ++ []) h) refl (refused_noted 2 x.pos s) (record { opened = refl; entry = refl }))
 
 -- main, once its type is read
 main_by : (x : Name) (ty : Ty) (b : Block) (found : Option Entry) (s : Typer) (v : Bool) → is_visible s.names x.text ≡ v →
     ReadsBy (Last [] (has_entry found) ty) s (λ m. in_func m x b) Entered (if v then Gives found (refused 2 x.pos s) else first_main x ty b s)
 main_by x ty b found s true h =
-    let g = again_by x found s h in
+    let g = again_by x ty found s h in
     record {
-      clear = g.clear;
-      reads = λ c m k a.
-          let seen = ap (λ (l : Scope (Option Kind)). is_visible l x.text) k.names ∙ h in
-          let r = g.reads c m k (record { opened = a.opened; entry = a.entry }) in
-          subst (λ (w : Bool). let es = if w then Declares x ∷ [] else in_body x (out-Block b).items in Same (refused 2 x.pos s) (noting m es) × Entered found (noting m es).sight) (sym seen) r;
+      reads = λ m k a.
+          let seen = ap (λ (l : Scene). is_visible l.names x.text) k.scene ∙ h in
+          subst (λ (w : Bool). let es = if w then Defines x ∷ [] else in_body x (out-Block b).items in Same (refused 2 x.pos s) (noting m es) × Entered found (noting m es).sight) (sym seen) (g.reads m k a);
     }
 main_by x ty b found s false h =
     let g = first_main_reads (has_entry found) x ty b s in
     record {
-      clear = g.clear;
-      reads = λ c m k a.
-          let seen = ap (λ (l : Scope (Option Kind)). is_visible l x.text) k.names ∙ h in
-          subst (λ (w : Bool). let es = if w then Declares x ∷ [] else in_body x (out-Block b).items in
-          Same (state (first_main x ty b s)) (noting m es) × Entered (value (first_main x ty b s)) (noting m es).sight) (sym seen) (g.reads c m k a);
+      reads = λ m k a.
+          let seen = ap (λ (l : Scene). is_visible l.names x.text) k.scene ∙ h in
+          subst (λ (w : Bool). let es = if w then Defines x ∷ [] else in_body x (out-Block b).items in
+          Same (state (first_main x ty b s)) (noting m es) × Entered (value (first_main x ty b s)) (noting m es).sight) (sym seen) (g.reads m k a);
     }
 
 main_reads : (ty : Specifiers) (x : Name) (b : Block) (found : Option Entry) (s : Typer) →
@@ -140,42 +125,32 @@ main_reads ty x b found s = bind_by (by (plain_reads (has_entry found) ty s)) (�
 func_by : (v : Bool) (ty : Specifiers) (x : Name) (b : Block) (found : Option Entry) (s : Typer) →
     ReadsBy (Entered found) s (λ m. if v then in_plain ty ++ in_func (after m (in_plain ty)) x b else []) Entered ((if v then main ty x b found else pure found) s)
 func_by true ty x b found s = main_reads ty x b found s
-func_by false ty x b found s = record { clear = λ c. c; reads = λ c m h a. (h, a) }
+func_by false ty x b found s = record { reads = λ m h a. (h, a) }
 
 item_reads : (i : Item) (found : Option Entry) (s : Typer) → ReadsBy (Entered found) s (λ m. in_top m i) Entered (unit.item i found s)
 unfolding unit.item in_top
 item_reads (top.Typedef p ty x) found s = by (ends_in (λ u. found) (λ m h. h) (typedef_reads (has_entry found) ty x s))
 item_reads (top.Struct p x) found s = by (struct_ends found (structure_reads (has_entry found) [] x s)) where
   struct_ends : {es : List Event} {s : Typer} {t : Typed Ty} (found : Option Entry) → Reads (At [] (has_entry found)) s es (Last [] (has_entry found)) t → Reads (Entered found) s es Entered (and_then t (λ ty. pure found))
-  struct_ends {t = Gives c u} found h = record { clear = h.clear; reads = λ e m r y. let q = h.reads e m r y in (q.0, record { opened = q.1.opened; entry = q.1.entry }) }
+  struct_ends {t = Gives c u} found h = record { reads = λ m r y. let q = h.reads m r y in (q.0, record { opened = q.1.opened; entry = q.1.entry }) }
 item_reads (top.Global ty ds) found s = by (ends_in (λ u. found) (λ m h. h) (declared_reads [] (has_entry found) ty ds s))
-item_reads (top.Proto ty x ps) found s = record { clear = λ c. c; reads = λ c m h a. (h, a) }
+item_reads (top.Proto ty x ps) found s = record { reads = λ m h a. (h, a) }
 item_reads (top.Func ty x ps b) found s = func_by (is_main x) ty x b found s
 
 items_reads : (is : List Item) (found : Option Entry) (s : Typer) → ReadsBy (Entered found) s (λ m. in_tops m is) Entered (unit.items is found s)
 unfolding each in_tops
-items_reads [] found s = record { clear = λ c. c; reads = λ c m h a. (h, a) }
+items_reads [] found s = record { reads = λ m h a. (h, a) }
 items_reads (i ∷ is) found s = bind_by (item_reads i found s) (λ o u. items_reads is o u)
 
 -- ---- the whole
 abbrev pub nothing_noted : Noted
 nothing_noted = record { sight = nothing_seen; faults = [] }
 
-pub whole_clear : (u : Source) (end : Pos) → HasNoBadInitialiser u end → Clear (state (all_items u))
-unfolding refusals
-whole_clear u end h = by_walk end (all_items u) h where
-  by_entry : (end : Pos) (b : Bool) (s : Typer) → refused_by 20 (if b then s.faults else (s.faults ++ fault 22 end ∷ [])) ≡ [] → Clear s
-  by_entry end true s h = record { none = h }
-  by_entry end false s h = record { none = left_empty (refused_by 20 s.faults) (refused_by 20 (fault 22 end ∷ [])) (sym (filter_map-append (place_of 20) s.faults (fault 22 end ∷ [])) ∙ h) }
-
-  by_walk : (end : Pos) (t : Typed (Option Entry)) → refused_by 20 (unit.refusals_in end t) ≡ [] → Clear (state t)
-  by_walk end (Gives o s) h = by_entry end (has_entry o) s h
-
 pub record Whole (u : Source) : Type 0 where
   pub faults : (noting nothing_noted (text u)).faults ≡ noted (state (all_items u)).faults
   pub entry : (after nothing_seen (text u)).entry ≡ has_entry (value (all_items u))
 
-pub whole : (u : Source) (end : Pos) → HasNoBadInitialiser u end → Whole u
-whole u end h =
-    let r = (items_reads u.items None blank).reads (whole_clear u end h) nothing_noted (record { names = refl; tags = refl; faults = refl }) (record { opened = refl; entry = refl }) in
+pub whole : (u : Source) → Whole u
+whole u =
+    let r = (items_reads u.items None blank).reads nothing_noted (record { scene = refl; faults = refl }) (record { opened = refl; entry = refl }) in
     record { faults = r.0.faults; entry = ap (λ (m : Sight). m.entry) (sym (sight_after nothing_noted (text u))) ∙ r.1.entry }

@@ -1,5 +1,5 @@
--- What a text does with names, tags, the words of types, qualifiers and the wait: the events of its parts, in the order in
--- which they are met. What isn't analysed yet (see sa_unbuilt) does nothing.
+-- What a text does with names, tags, types, places, initialisers and the wait: the events of its parts, in the order in which
+-- they are met. What isn't analysed yet (see sa_unbuilt) does nothing.
 use Rattle.std.specs.Prelude.{List, [], ◌∷◌, ◌++◌, Bool, true, false, Option}
 use Rattle.sa_base.specs.declared.pos.Pos.{Pos}
 use Rattle.sa_syntax.specs.declared.decl.Base as base
@@ -33,18 +33,42 @@ pub data Event : Type 0 where
   Named : Name → Event
   -- .. a structure with its fields, from its tag on to its closing brace
   Opens : Option Name → Event
-  Closes : Event
+  Closes : Option Name → Event
+  -- such qualifiers stand before the type that was just written
+  Qualifies : List Qualified → Event
   -- the type that was just written, with the place of its first token, is that of an object
   Object : Pos → Event
-  -- a name stands for a variable
+  -- a place begins with a variable's name, or with a `*` and a name
   Uses : Name → Event
-  -- a name is declared: a variable's or a function's, a type name for the type that was just written, a field's
-  Declares : Name → Event
+  Follows : Name → Event
+  -- .. it goes on with an index, with a `.` and a field, with a `->`
+  Indexes : Event
+  Picks : Name → Event
+  Points : Event
+  -- .. it is at its end, and is read; or it began there, and is assigned to
+  Loads : Event
+  Assigns : Pos → Event
+  -- names of the type that was just written are declared, from there on to there
+  Group_begins : Event
+  Group_ends : Event
+  -- an expression is a dimension of the next of these names
+  Dimension : Expr → Event
+  -- the next of these names has an initialiser; it is an input's, and begins there
+  Starts : Event
+  Starts_input : Pos → Event
+  -- an item of braces that begin there is next
+  Next_item : Pos → Event
+  -- an initialiser or item is an expression: any, or one that has to be known
+  Begins_with : Expr → Event
+  Initial : Expr → Event
+  -- .. or braces, which end
+  Filled : Event
+  -- a name is declared: a variable's, and whether it is an input if it is a number; a function's, a type name for the type that
+  -- was just written, a field's
+  Declares : Bool → Name → Event
+  Defines : Name → Event
   Aliases : Name → Event
   Member : Name → Event
-  -- an expression is a dimension, or an initial value that has to be known
-  Dimension : Expr → Event
-  Initial : Expr → Event
   -- a block begins and ends
   Begins : Event
   Ends : Event
@@ -73,18 +97,18 @@ misplaced is_wrong [] = []
 misplaced is_wrong (q ∷ qs) = misplaced_if (is_wrong q.word) q.pos ++ misplaced is_wrong qs
 
 -- ---- expressions and types
-abbrev pub name_in : PlaceBase → Name
-name_in (at.Name x) = x
-name_in (at.Through p star x) = x
-name_in (at.Star star x) = x
+abbrev pub begin : PlaceBase → Event
+begin (at.Name x) = Uses x
+begin (at.Through p star x) = Follows x
+begin (at.Star star x) = Follows x
 
 unfoldable mutual
   pub in_expr : Expr → List Event
   in_expr (Number v unsigned longs decimal p) = []
-  in_expr (Place' b n row) = Uses (name_in b) ∷ in_steps row
+  in_expr (Place' b n row) = begin b ∷ (in_steps row ++ Loads ∷ [])
   in_expr (Bracket' p n (more_of-Expr x end_of-Expr)) = in_expr x
   in_expr (Prefix' op p n (more_of-Expr x end_of-Expr)) = in_expr x
-  in_expr (Cast' p m (more_of-Specifiers q qs b end_of-Specifiers) n (more_of-Expr x end_of-Expr)) = misplaced is_volatile qs ++ ((in_base q b ++ Object q ∷ []) ++ in_expr x)
+  in_expr (Cast' p m (more_of-Specifiers q qs b end_of-Specifiers) n (more_of-Expr x end_of-Expr)) = misplaced is_volatile qs ++ (((in_base q b ++ Qualifies qs ∷ []) ++ Object q ∷ []) ++ in_expr x)
   in_expr (Chain' m (more_of-Expr x end_of-Expr) n row) = in_expr x ++ in_links row
   in_expr (Choice' l x p m y n z) = []
 
@@ -97,9 +121,9 @@ unfoldable mutual
   in_steps (more_of-Step x rest) = in_step x ++ in_steps rest
 
   pub in_step : Step → List Event
-  in_step (Index' p n (more_of-Expr x end_of-Expr)) = in_expr x
-  in_step (Field p x) = []
-  in_step (Arrow p x) = []
+  in_step (Index' p n (more_of-Expr x end_of-Expr)) = in_expr x ++ Indexes ∷ []
+  in_step (Field p x) = Picks x ∷ []
+  in_step (Arrow p x) = Points ∷ []
 
   -- the place is that of the type's first token
   pub in_base : Pos → base.Base → List Event
@@ -110,14 +134,14 @@ unfoldable mutual
   in_base p (base.Named x) = Named x ∷ []
 
   pub in_struct : Struct → List Event
-  in_struct (Struct' tag n row) = Opens tag ∷ (in_fields row ++ Closes ∷ [])
+  in_struct (Struct' tag n row) = Opens tag ∷ (in_fields row ++ Closes tag ∷ [])
 
   pub in_fields : {n : _} → Row_of-Field n → List Event
   in_fields end_of-Field = []
   in_fields (more_of-Field x rest) = in_field x ++ in_fields rest
 
   pub in_field : group.Field → List Event
-  in_field (Field' p qs b n row) = misplaced is_no_const qs ++ ((in_base p b ++ Object p ∷ []) ++ in_declrs row)
+  in_field (Field' p qs b n row) = misplaced is_no_const qs ++ (((in_base p b ++ Qualifies qs ∷ []) ++ Object p ∷ []) ++ (Group_begins ∷ (in_declrs row ++ Group_ends ∷ [])))
 
   pub in_declrs : {n : _} → Row_of-Declr n → List Event
   in_declrs end_of-Declr = []

@@ -1,144 +1,177 @@
--- What is visible after some events: names, tags, and what is open.
-use Rattle.std.specs.Prelude.{ℕ, List, [], ◌∷◌, ◌++◌, ◌&&◌, ◌||◌, Bool, true, false, Option, Some, None}
+-- What is seen after some events: what is visible, what is open, and the type that was written last.
+use Rattle.std.specs.Prelude.{ℕ, List, [], ◌∷◌, ◌++◌, ◌+◌, ◌&&◌, Bool, true, false, if◌then◌else◌, unsigned_abs, length, Option, Some, None}
 use Rattle.std.specs.List.{fold}
-use Rattle.sa_base.specs.declared.num.Num.{Num}
+use Rattle.sa_base.specs.declared.num.Num.TheVariants.{I32}
 use Rattle.sa_syntax.specs.declared.decl.Name.{Name}
-use Rattle.sa_scopes.specs.Scopes.{Scope, nothing, meaning_of, is_visible, index_from, is_some, with_name, with_meaning, oldest, count}
-use Rattle.sa_scopes.specs.Types.{num_of}
-use Rattle.sa_typer.specs.Units.{is_result}
-use Rattle.sa_rules.specs.Events.{Event, Misplaced, Volatile_before_bare, Words, Void, Tag, Named, Opens, Closes, Object, Uses, Declares, Aliases, Member, Dimension, Initial, Begins, Ends, Stray, Main}
+use Rattle.sa_typed.specs.declared.shape.Shape.{Shape}
+use Rattle.sa_scopes.specs.declared.constant.Value.{Value}
+use Rattle.sa_scopes.specs.declared.constant.Value.TheVariants.{Is}
+use Rattle.sa_scopes.specs.declared.structs.Fields.{Fields}
+use Rattle.sa_scopes.specs.declared.types.Element.TheVariants as el
+use Rattle.sa_scopes.specs.declared.types.Tagged.TheVariants as t
+use Rattle.sa_scopes.specs.declared.types.Ty.{Ty}
+use Rattle.sa_operands.specs.Definitions.{is_dimension, no_fields, with_field, name_or_empty}
+use Rattle.sa_scopes.specs.declared.form.Form.{Form}
+use Rattle.sa_scopes.specs.declared.form.Form.TheVariants as form
+use Rattle.sa_scopes.specs.Forms.{scalar, form_of}
+use Rattle.sa_scopes.specs.Scopes.{meaning_of, is_visible, with_name, count}
+use Rattle.sa_scopes.specs.Structures.{Structs, slot}
+use Rattle.sa_scopes.specs.Types.{num_of, plain, qualified, shape_of}
+use Rattle.sa_typer.specs.Units.{is_entry_type}
+use Rattle.sa_rules.specs.Events.{Event, Misplaced, Volatile_before_bare, Words, Void, Tag, Named, Opens, Closes, Qualifies, Object, Uses, Follows, Indexes, Picks, Points, Loads, Assigns, Group_begins, Group_ends, Dimension, Starts, Starts_input, Next_item, Begins_with, Initial, Filled, Declares, Defines, Aliases, Member, Begins, Ends, Stray, Main}
+use Rattle.sa_rules.specs.Scenes.{Scene, Meaning, Alias, Function, blank, words_type, tag_type, named_type, object_type, named, declared, with_fields, within, is_taken}
+use Rattle.sa_rules.specs.Spots.{Spot, nowhere, meant_spot, indexed, lost, stepped}
+use Rattle.sa_rules.specs.Values.{value_of}
 
--- what a type is apart from its qualifiers; it is none where its words were refused
-pub data Kind : Type 0 where
-  Nothing : Kind
-  Number : Num → Kind
-  Structure : Kind
-  Unknown : Kind
-
--- what is open: a structure, with the number of its tag where it declares one and its fields so far, or a block, with how many
--- names and tags were visible where it began
+-- what is open
 pub data Open : Type 0 where
-  Braces : Option ℕ → List (List ℕ) → Open
+  -- a structure, with the number of its tag where it declares one, and its fields so far
+  Braces : Option ℕ → Fields → Open
+  -- names of objects or fields of a type, with the dimensions so far of the name that stands there
+  Group : Ty → List ℕ → Open
+  -- a place up to a step
+  Place : Spot → Open
+  -- an initialiser for an object of that shape, with how many items its braces have so far
+  For : Shape → ℕ → Open
+  -- a block, with how many names and tags were visible where it began
   Block : ℕ → ℕ → Open
 
 pub record Sight : Type 0 where
-  -- each visible name, with the kind of its type where it is a type name
-  pub names : Scope (Option Kind)
-  -- each visible tag, and whether its structure is complete
-  pub tags : Scope Bool
+  pub scene : Scene
   -- what is open, the innermost first
   pub opened : List Open
   -- the type that was written last
-  pub last : Kind
+  pub last : Ty
   -- whether the last function main has the clock loop and gives void or int
   pub entry : Bool
 
 abbrev pub nothing_seen : Sight
-nothing_seen = record { names = nothing; tags = nothing; opened = []; last = Unknown; entry = false }
+nothing_seen = record { scene = blank; opened = []; last = plain el.Unknown; entry = false }
 
-abbrev pub words_kind : Option Num → Kind
-words_kind None = Unknown
-words_kind (Some num) = Number num
+abbrev pub open_more : Open → Sight → Sight
+open_more o m = record m { opened = o ∷ m.opened }
 
-abbrev pub is_complete : Option Bool → Bool
-is_complete (Some true) = true
-is_complete _ = false
+abbrev pub rest_of : List Open → List Open
+rest_of [] = []
+rest_of (o ∷ os) = os
 
-abbrev pub tag_kind : Bool → Kind
-tag_kind true = Structure
-tag_kind false = Unknown
+-- the innermost is closed
+abbrev pub close_one : Sight → Sight
+close_one m = record m { opened = rest_of m.opened }
 
-abbrev pub is_type_name : Option (Option Kind) → Bool
-is_type_name (Some (Some k)) = true
-is_type_name _ = false
+-- ---- places
+abbrev pub spot_in : List Open → Spot
+spot_in (Place l ∷ os) = l
+spot_in _ = nowhere
 
-abbrev pub alias_kind : Option (Option Kind) → Kind
-alias_kind (Some (Some k)) = k
-alias_kind _ = Unknown
+abbrev pub step_to : Spot → Sight → Sight
+step_to l m = record m { opened = Place l ∷ rest_of m.opened }
 
-abbrev pub is_nothing : Kind → Bool
-is_nothing Nothing = true
-is_nothing _ = false
-
-abbrev pub is_structure : Kind → Bool
-is_structure Structure = true
-is_structure _ = false
-
--- void or int; what is refused elsewhere counts as either
-abbrev pub gives_int : Kind → Bool
-gives_int (Number num) = is_result num
-gives_int _ = true
-
--- the fields so far of the structure that is open
-abbrev pub fields_so_far : List Open → List (List ℕ)
-fields_so_far (Braces tag names ∷ rest) = names
-fields_so_far _ = []
-
--- a name that no other field of the structure may have: that of a field before, or a type name
-abbrev pub is_taken : Sight → List ℕ → Bool
-is_taken m w = is_some (index_from 0 w (fields_so_far m.opened)) || is_type_name (meaning_of m.names w)
-
-abbrev pub with_field : List Open → List ℕ → List Open
-with_field (Braces tag names ∷ rest) w = Braces tag (names ++ w ∷ []) ∷ rest
-with_field os w = os
-
--- a name with what it is, unless it is visible already
-abbrev pub declared_unless : Bool → List ℕ → Option Kind → Sight → Sight
-declared_unless true w k m = m
-declared_unless false w k m = record m { names = with_name m.names w k }
-
+-- ---- structures
 -- a structure's brace opens; its tag is declared there unless it is visible, but isn't complete
 abbrev pub opened_unless : Bool → List ℕ → Sight → Sight
-opened_unless true w m = record m { opened = Braces None [] ∷ m.opened }
-opened_unless false w m = record m { tags = with_name m.tags w false; opened = Braces (Some (count m.tags)) [] ∷ m.opened }
+opened_unless true w m = open_more (Braces None no_fields) m
+opened_unless false w m = record m { scene = record m.scene { tags = with_name m.scene.tags w t.Open }; opened = Braces (Some (count m.scene.tags)) no_fields ∷ m.opened }
 
 abbrev pub with_open : Option Name → Sight → Sight
-with_open None m = record m { opened = Braces None [] ∷ m.opened }
-with_open (Some x) m = opened_unless (is_visible m.tags x.text) x.text m
+with_open None m = open_more (Braces None no_fields) m
+with_open (Some x) m = opened_unless (is_visible m.scene.tags x.text) x.text m
 
-abbrev pub field_unless : Bool → List ℕ → Sight → Sight
-field_unless true w m = m
-field_unless false w m = record m { opened = with_field m.opened w }
+abbrev pub closed : List ℕ → List Open → Sight → Sight
+closed w (Braces i f ∷ rest) m = record m { scene = with_fields w i f m.scene; opened = rest; last = plain (el.Struct (length m.scene.structs.defs)) }
+closed w _ m = m
 
--- void is no object's type
-abbrev pub unknown_if : Bool → Sight → Sight
-unknown_if true m = record m { last = Unknown }
-unknown_if false m = m
+-- the fields so far of the structure that is open
+abbrev pub fields_so_far : List Open → Fields
+fields_so_far (Group ty dims ∷ (Braces i f ∷ rest)) = f
+fields_so_far _ = no_fields
 
-abbrev pub completed : Scope Bool → Option ℕ → Scope Bool
-completed tags None = tags
-completed tags (Some i) = with_meaning tags i true
+abbrev pub field_unless : Bool → List ℕ → Ty → List ℕ → Fields → Fields
+field_unless true w ty dims f = f
+field_unless false w ty dims f = with_field f w (shape_of ty.element dims) ty.constant
 
-abbrev pub closed : List Open → Sight → Sight
-closed (Braces tag names ∷ rest) m = record m { tags = completed m.tags tag; opened = rest; last = Structure }
-closed _ m = m
+abbrev pub with_member : Scene → List ℕ → List Open → List Open
+with_member v w (Group ty dims ∷ (Braces i f ∷ rest)) = Group ty [] ∷ (Braces i (field_unless (is_taken v f w) w ty dims f) ∷ rest)
+with_member v w os = os
 
--- what was declared in a block is visible to its end
+-- ---- objects
+-- a dimension; what is refused counts as 1
+abbrev pub size_of : Value → ℕ
+size_of (Is c) = if is_dimension c.value then unsigned_abs c.value else 1
+size_of _ = 1
+
+abbrev pub with_size : ℕ → List Open → List Open
+with_size n (Group ty dims ∷ rest) = Group ty (dims ++ n ∷ []) ∷ rest
+with_size n os = os
+
+abbrev pub with_declared : Bool → List ℕ → List Open → Sight → Sight
+with_declared input w (Group ty dims ∷ rest) m = record m { scene = declared input w ty dims m.scene; opened = Group ty [] ∷ rest }
+with_declared input w _ m = m
+
+-- ---- initialisers
+-- what the initialiser or item that is open is for, at the outside
+abbrev pub wanted : List Open → Form
+wanted (For shape k ∷ rest) = form_of shape
+wanted _ = form.Scalar I32
+
+-- what the next item of braces is for; one too many counts as one for an int
+abbrev pub next_slot : Structs → List Open → Option Shape
+next_slot s (For shape k ∷ rest) = slot s shape k
+next_slot s _ = None
+
+abbrev pub or_int : Option Shape → Shape
+or_int None = scalar I32
+or_int (Some shape) = shape
+
+abbrev pub with_item : Structs → List Open → List Open
+with_item s (For shape k ∷ rest) = For (or_int (slot s shape k)) 0 ∷ (For shape (k + 1) ∷ rest)
+with_item s os = os
+
+abbrev pub with_start : List Open → List Open
+with_start (Group ty dims ∷ rest) = For (shape_of ty.element dims) 0 ∷ (Group ty dims ∷ rest)
+with_start os = os
+
+-- ---- blocks
 abbrev pub left : List Open → Sight → Sight
-left (Block names tags ∷ rest) m = record m { names = oldest names m.names; tags = oldest tags m.tags; opened = rest }
+left (Block names tags ∷ rest) m = record m { scene = within names tags m.scene; opened = rest }
 left _ m = m
 
 unfoldable pub see : Sight → Event → Sight
 see m (Misplaced p) = m
 see m (Volatile_before_bare p) = m
-see m (Words p ws) = record m { last = words_kind (num_of ws) }
-see m Void = record m { last = Nothing }
-see m (Tag p x) = record m { last = tag_kind (is_complete (meaning_of m.tags x.text)) }
-see m (Named x) = record m { last = alias_kind (meaning_of m.names x.text) }
+see m (Words p ws) = record m { last = words_type (num_of ws) }
+see m Void = record m { last = plain el.Void }
+see m (Tag p x) = record m { last = tag_type (meaning_of m.scene.tags x.text) }
+see m (Named x) = record m { last = named_type (meaning_of m.scene.names x.text) }
 see m (Opens tag) = with_open tag m
-see m Closes = closed m.opened m
-see m (Object p) = unknown_if (is_nothing m.last) m
-see m (Uses x) = m
-see m (Dimension x) = m
-see m (Initial x) = m
-see m (Declares x) = declared_unless (is_visible m.names x.text) x.text None m
-see m (Aliases x) = declared_unless (is_visible m.names x.text) x.text (Some m.last) m
-see m (Member x) = field_unless (is_taken m x.text) x.text m
-see m Begins = record m { opened = Block (count m.names) (count m.tags) ∷ m.opened }
+see m (Closes tag) = closed (name_or_empty tag) m.opened m
+see m (Qualifies qs) = record m { last = qualified qs m.last }
+see m (Object p) = record m { last = object_type m.last }
+see m (Uses x) = open_more (Place (meant_spot m.scene (meaning_of m.scene.names x.text))) m
+see m (Follows x) = open_more (Place nowhere) m
+see m Indexes = step_to (indexed (spot_in m.opened)) m
+see m (Picks x) = step_to (stepped m.scene.structs x.text (spot_in m.opened)) m
+see m Points = step_to (lost (spot_in m.opened)) m
+see m Loads = close_one m
+see m (Assigns p) = close_one m
+see m Group_begins = open_more (Group m.last []) m
+see m Group_ends = close_one m
+see m (Dimension x) = record m { opened = with_size (size_of (value_of m.scene.names x)) m.opened }
+see m Starts = record m { opened = with_start m.opened }
+see m (Starts_input p) = m
+see m (Next_item p) = record m { opened = with_item m.scene.structs m.opened }
+see m (Begins_with x) = close_one m
+see m (Initial x) = close_one m
+see m Filled = close_one m
+see m (Declares input x) = with_declared input x.text m.opened m
+see m (Defines x) = record m { scene = named x.text Function m.scene }
+see m (Aliases x) = record m { scene = named x.text (Alias m.last) m.scene }
+see m (Member x) = record m { opened = with_member m.scene x.text m.opened }
+see m Begins = open_more (Block (count m.scene.names) (count m.scene.tags)) m
 see m Ends = left m.opened m
 see m (Stray p) = m
-see m (Main clock) = record m { entry = clock && gives_int m.last }
+see m (Main clock) = record m { entry = clock && is_entry_type m.last.element }
 
--- what is visible after some events more
+-- what is seen after some events more
 abbrev pub after : Sight → List Event → Sight
 after m es = fold see m es

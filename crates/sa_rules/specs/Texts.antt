@@ -33,36 +33,48 @@ use Rattle.sa_syntax.specs.declared.unit.Item.TheVariants as top
 use Rattle.sa_syntax.specs.declared.unit.Unit.{Unit as Source}
 use Rattle.sa_typer.specs.Bodies.{clock_loop}
 use Rattle.sa_declarations.specs.Declarations.{are_bare}
-use Rattle.sa_scopes.specs.First.{item_pos}
+use Rattle.sa_scopes.specs.First.{item_pos, init_pos, place_pos}
 use Rattle.sa_scopes.specs.Scopes.{is_visible, is_some}
-use Rattle.sa_rules.specs.Events.{Event, Misplaced, Volatile_before_bare, Initial, Object, Uses, Declares, Aliases, Begins, Ends, Stray, Main, is_volatile, misplaced, name_in, in_expr, in_step, in_base, in_struct, in_bound}
+use Rattle.sa_scopes.specs.Types.{has_volatile}
+use Rattle.sa_rules.specs.Events.{Event, Misplaced, Volatile_before_bare, Qualifies, Object, Assigns, Group_begins, Group_ends, Starts, Starts_input, Next_item, Begins_with, Initial, Filled, Declares, Defines, Aliases, Begins, Ends, Stray, Main, is_volatile, misplaced, begin, in_expr, in_step, in_base, in_struct, in_bound}
 use Rattle.sa_rules.specs.Sight.{Sight, nothing_seen, after}
 
 -- ---- initialisers
+-- the place is that of the braces
 unfoldable mutual
   pub in_init : Init → List Event
   in_init (init.Value e) = in_expr e ++ Initial e ∷ []
-  in_init (init.Braces' p n row) = in_inits row
+  in_init (init.Braces' p n row) = in_inits p row
 
-  pub in_inits : {n : _} → Row_of-Init n → List Event
-  in_inits end_of-Init = []
-  in_inits (more_of-Init i rest) = in_init i ++ in_inits rest
+  pub in_inits : {n : _} → Pos → Row_of-Init n → List Event
+  in_inits p end_of-Init = Filled ∷ []
+  in_inits p (more_of-Init i rest) = (Next_item p ∷ in_init i) ++ in_inits p rest
 
 -- ---- declarations
 abbrev pub in_type : Specifiers → List Event
-in_type ty = in_base (out-Specifiers ty).pos (out-Specifiers ty).base
+in_type ty = in_base (out-Specifiers ty).pos (out-Specifiers ty).base ++ Qualifies (out-Specifiers ty).qualifiers ∷ []
 
 -- the type of objects
 abbrev pub in_object : Specifiers → List Event
 in_object ty = in_type ty ++ Object (out-Specifiers ty).pos ∷ []
 
-abbrev pub in_start : Start → List Event
-in_start start.Nothing = []
-in_start (start.Init p i) = in_init i
+abbrev pub starts_input_if : Bool → Pos → List Event
+starts_input_if true p = Starts_input p ∷ []
+starts_input_if false p = []
+
+-- an initialiser, given whether its type is volatile
+abbrev pub in_start : Bool → Start → List Event
+in_start volatile start.Nothing = []
+in_start volatile (start.Init p i) = starts_input_if volatile (init_pos i) ++ (Starts ∷ in_init i)
+
+-- without an initialiser a volatile number is an input
+abbrev pub may_be_input : Bool → Start → Bool
+may_be_input volatile start.Nothing = volatile
+may_be_input volatile (start.Init p i) = false
 
 -- a name is declared after its initialiser
-unfoldable pub in_global : InitDeclr → List Event
-in_global d = flat_map in_bound (out-Declr d.declr).bounds ++ (in_start d.start ++ Declares (out-Declr d.declr).name ∷ [])
+unfoldable pub in_global : Bool → InitDeclr → List Event
+in_global volatile d = flat_map in_bound (out-Declr d.declr).bounds ++ (in_start volatile d.start ++ Declares (may_be_input volatile d.start) (out-Declr d.declr).name ∷ [])
 
 -- a qualifier at file scope, and whether the names after it have no dimensions
 abbrev pub at_file_scope : Bool → Pos → Qualifier → List Event
@@ -75,33 +87,38 @@ qualifiers_at_file_scope bare [] = []
 qualifiers_at_file_scope bare (q ∷ qs) = at_file_scope bare q.pos q.word ++ qualifiers_at_file_scope bare qs
 
 unfoldable pub in_globals : Specifiers → List InitDeclr → List Event
-in_globals ty ds = in_object ty ++ (qualifiers_at_file_scope (are_bare ds) (out-Specifiers ty).qualifiers ++ flat_map in_global ds)
+in_globals ty ds =
+    in_object ty ++ (qualifiers_at_file_scope (are_bare ds) (out-Specifiers ty).qualifiers ++ (Group_begins ∷ (flat_map (in_global (has_volatile (out-Specifiers ty).qualifiers)) ds ++ Group_ends ∷ [])))
 
 -- an expression that a local begins with is any
 unfoldable pub in_local_init : Init → List Event
-in_local_init (init.Value e) = in_expr e
-in_local_init (init.Braces' p n row) = in_inits row
+in_local_init (init.Value e) = in_expr e ++ Begins_with e ∷ []
+in_local_init (init.Braces' p n row) = in_inits p row
 
 abbrev pub in_local_start : LocalStart → List Event
 in_local_start begins.Nothing = []
-in_local_start (begins.Init p i) = in_local_init i
+in_local_start (begins.Init p i) = Starts ∷ in_local_init i
 in_local_start (begins.Call p c) = []
 
 unfoldable pub in_local_declr : LocalDeclr → List Event
-in_local_declr d = flat_map in_bound (out-Declr d.declr).bounds ++ (in_local_start d.start ++ Declares (out-Declr d.declr).name ∷ [])
+in_local_declr d = flat_map in_bound (out-Declr d.declr).bounds ++ (in_local_start d.start ++ Declares false (out-Declr d.declr).name ∷ [])
 
 unfoldable pub in_local : Local → List Event
-in_local l = misplaced is_volatile (out-Specifiers l.ty).qualifiers ++ (in_object l.ty ++ flat_map in_local_declr l.declrs)
+in_local l = misplaced is_volatile (out-Specifiers l.ty).qualifiers ++ (in_object l.ty ++ (Group_begins ∷ (flat_map in_local_declr l.declrs ++ Group_ends ∷ [])))
 
 -- ---- statements
 unfoldable pub in_place : Place → List Event
-in_place x = Uses (name_in (out-Place x).base) ∷ flat_map in_step (out-Place x).steps
+in_place x = begin (out-Place x).base ∷ flat_map in_step (out-Place x).steps
+
+-- a place that is assigned to
+abbrev pub in_left : Place → List Event
+in_left x = in_place x ++ Assigns (place_pos x) ∷ []
 
 unfoldable pub in_simple : Simple → List Event
-in_simple (simple.Assign x p e) = in_place x ++ in_expr e
-in_simple (simple.Compound x op p e) = in_place x ++ in_expr e
-in_simple (simple.After x turn p) = in_place x
-in_simple (simple.Before turn p x) = in_place x
+in_simple (simple.Assign x p e) = in_left x ++ in_expr e
+in_simple (simple.Compound x op p e) = in_left x ++ in_expr e
+in_simple (simple.After x turn p) = in_left x
+in_simple (simple.Before turn p x) = in_left x
 
 -- a wait by itself
 abbrev pub in_directive : Pos → Directive → List Event
@@ -143,7 +160,7 @@ has_loop found [] = found
 has_loop found (i ∷ is) = has_loop (found || is_some (clock_loop i)) is
 
 abbrev pub in_body : Name → List BlockItem → List Event
-in_body x is = Main (has_loop false is) ∷ Declares x ∷ Begins ∷ (in_main false is ++ Ends ∷ [])
+in_body x is = Main (has_loop false is) ∷ Defines x ∷ Begins ∷ (in_main false is ++ Ends ∷ [])
 
 -- ---- the whole
 -- a type before the name of a function or a type name
@@ -152,7 +169,7 @@ in_plain ty = misplaced is_volatile (out-Specifiers ty).qualifiers ++ in_type ty
 
 -- the block of a second main isn't read
 abbrev pub in_func : Sight → Name → Block → List Event
-in_func m x b = if is_visible m.names x.text then Declares x ∷ [] else in_body x (out-Block b).items
+in_func m x b = if is_visible m.scene.names x.text then Defines x ∷ [] else in_body x (out-Block b).items
 
 -- an item, after what was seen
 unfoldable pub in_top : Sight → Item → List Event

@@ -7,20 +7,22 @@ use Rattle.sa_typed.specs.Arithmetic.{literal_type}
 use Rattle.sa_typed.specs.declared.expr.Operator.{Operator}
 use Rattle.sa_scopes.specs.declared.constant.Value.{Value}
 use Rattle.sa_scopes.specs.declared.constant.Value.TheVariants.{Varies}
+use Rattle.sa_scopes.specs.declared.types.Element.{Element}
+use Rattle.sa_scopes.specs.declared.types.Element.TheVariants as el
 use Rattle.sa_operands.specs.Operands.{prefix_of, operator_of}
 use Rattle.sa_scopes.specs.Scopes.{Scope, meaning_of}
 use Rattle.sa_scopes.specs.Types.{num_of}
 use Rattle.sa_scopes.specs.Values.{literal_value, prefix_value, cast_value, miscast_value, operator_value}
-use Rattle.sa_rules.specs.Sight.{Kind, Number as number, alias_kind}
+use Rattle.sa_rules.specs.Scenes.{Meaning, named_type}
 
-abbrev pub number_kind : Kind → Option Num
-number_kind (number num) = Some num
-number_kind _ = None
+abbrev pub number_of : Element → Option Num
+number_of (el.Scalar num) = Some num
+number_of _ = None
 
 -- the whole-number type that stands in a cast, where it is one
-abbrev pub cast_type : Scope (Option Kind) → base.Base → Option Num
+abbrev pub cast_type : Scope Meaning → base.Base → Option Num
 cast_type names (base.Scalar ws) = num_of ws
-cast_type names (base.Named x) = number_kind (alias_kind (meaning_of names x.text))
+cast_type names (base.Named x) = number_of (named_type (meaning_of names x.text)).element
 cast_type names _ = None
 
 abbrev pub cast_as : Option Num → Value → Value
@@ -32,7 +34,7 @@ linked_value None a b = Varies
 linked_value (Some op) a b = operator_value op a b
 
 unfoldable mutual
-  pub value_of : Scope (Option Kind) → Expr → Value
+  pub value_of : Scope Meaning → Expr → Value
   value_of names (Number v unsigned longs decimal p) = literal_value (literal_type v unsigned longs decimal) v
   value_of names (Place' b n row) = Varies
   value_of names (Bracket' p n (more_of-Expr x end_of-Expr)) = value_of names x
@@ -42,6 +44,6 @@ unfoldable mutual
   value_of names (Choice' l x p m y n z) = Varies
 
   -- a chain groups to the left
-  pub chain_value : {n : _} → Scope (Option Kind) → Row_of-Link n → Value → Value
+  pub chain_value : {n : _} → Scope Meaning → Row_of-Link n → Value → Value
   chain_value names end_of-Link v = v
   chain_value names (more_of-Link op p x rest) v = chain_value names rest (linked_value (operator_of op) v (value_of names x))

@@ -1,6 +1,6 @@
 //! Laws of refusals.
 
-ghost use Rattle.sa_rules.specs.Rules.{IsRule, IsExact, IsMissingMain, undeclared, declared_twice, no_constant, no_type, oversized, misqualified, astray};
+ghost use Rattle.sa_rules.specs.Rules.{IsRule, IsExact, IsMissingMain, undeclared, declared_twice, no_type, no_field, unassignable, no_constant, oversized, ill_begun, misqualified, astray};
 ghost use Rattle.sa_rules.specs.Sites.{StandAtSites};
 
 /// Refusals with code 1 stand exactly at the names of variables that aren't visible there.
@@ -23,8 +23,21 @@ pub fn types_are_types()
     ensures exact { IsExact 3 no_type }
 {}
 
+/// Refusals with code 4 stand exactly at the names of fields that the structure before the `.` doesn't have.
+pub fn fields_are_there()
+    ensures listed { IsRule 4 no_field }
+    ensures exact { IsExact 4 no_field }
+{}
+
+/// Refusals with code 6 stand exactly at the first tokens of left sides that begin with an input or a `const` variable, or step
+/// to a `const` field.
+pub fn left_sides_are_free()
+    ensures listed { IsRule 6 unassignable }
+    ensures exact { IsExact 6 unassignable }
+{}
+
 /// Refusals with code 18 stand exactly at the first tokens of dimensions, and of initial values of the file scope and within
-/// braces, that are no constant expressions or err.
+/// braces that are for numbers, that are no constant expressions or err.
 pub fn constants_are_constant()
     ensures listed { IsRule 18 no_constant }
     ensures exact { IsExact 18 no_constant }
@@ -35,6 +48,14 @@ pub fn constants_are_constant()
 pub fn dimensions_are_in_range()
     ensures listed { IsRule 19 oversized }
     ensures exact { IsExact 19 oversized }
+{}
+
+/// Refusals with code 20 stand exactly at the braces of each item that is one too many, or that stands where a number is needed,
+/// at the first tokens of expressions where braces are needed, and of constants outside their type, and at the first tokens of
+/// initialisers of inputs.
+pub fn initialisers_fit()
+    ensures listed { IsRule 20 ill_begun }
+    ensures exact { IsExact 20 ill_begun }
 {}
 
 /// Refusals with code 21 stand exactly at each `volatile` elsewhere than at file scope before whole numbers without dimensions,

@@ -1,7 +1,9 @@
-use Rattle.std.proofs.Common.{◌≡◌, ℕ, ap, sym, ◌∙◌, arith, length}
+use Rattle.std.proofs.Common.{◌≡◌, ℕ, ap, sym, subst, ◌∙◌, arith, length}
+use Rattle.sa_typed.specs.declared.shape.Shape.{Shape}
 use Rattle.sa_scopes.specs.Forms.{inside}
+use Rattle.sa_declarations.specs.Initialisers.{init, GivesValues}
 use Rattle.sa_scopes.specs.Structures.{shape_at, missing, kept}
-use Rattle.sa_declarations.proofs.InitRows.{value_answer, braces_answer, slot_answer, goes_next, goes_end}
+use Rattle.sa_declarations.proofs.InitRows.{value_answer, braces_answer, none_answer, slot_answer, goes_next, goes_end}
 use Rattle.sa_declarations.proofs.initial.+initialising.Goals as goal
 
 pub init-returns-in_ok-operand-in-Value : goal.init-returns-in_ok-operand-in-Value
@@ -22,10 +24,16 @@ items-returns t c = λ zs s.
     (λ ys g. c.skip.ensures ys (missing c.loop-at.typer.structs (inside c.args.depth c.args.shape.now) c.loop-at.at) g
     (c.missing-missing.ensures ∙ ap (λ (k : ℕ). kept (missing c.loop-at.typer.structs (inside c.args.depth c.args.shape.now) k)) e))
 
+pub nth_item-returns-in_ok-refuse-in-Nothing : goal.nth_item-returns-in_ok-refuse-in-Nothing
+nth_item-returns-in_ok-refuse-in-Nothing t c = λ zs s.
+    none_answer c.args.one.now c.args.pos (inside c.args.depth c.args.shape.now) c.args.at zs c.args.typer.now c.refuse.new.self c.init.new.typer c.init.result
+    (ap (shape_at c.args.shape.now) (sym c.in-Nothing.is) ∙ c.in_ok-slot.ensures) c.in_ok-refuse-in-Nothing.ensures
+    (subst (λ (x : Shape). GivesValues (init c.args.one.now (inside 0 x) zs c.refuse.new.self) c.init.result c.init.new.typer) c.scalar.ensures (c.init.ensures zs s))
+
 pub nth_item-returns-in-Element : goal.nth_item-returns-in-Element
 nth_item-returns-in-Element t c = λ zs s.
     slot_answer c.args.one.now c.args.pos (inside c.args.depth c.args.shape.now) (inside c.in-Element.deeper c.args.shape.now) c.args.at zs c.args.typer.now _ _ (ap (shape_at c.args.shape.now) (sym c.in-Element.is) ∙ c.in_ok-slot.ensures)
-    (c.init.ensures zs s)
+    (c.init-in-Element.ensures zs s)
 
 pub nth_item-returns-in-Field : goal.nth_item-returns-in-Field
 nth_item-returns-in-Field t c = λ zs s.
