@@ -23,7 +23,7 @@ use Rattle.sa_syntax.specs.Words.{Names, mark, key, word, named, is_void_alone}
 use Rattle.sa_syntax.specs.Expressions.{Specifiers', Declr', Bounds}
 use Rattle.sa_syntax.specs.Statements.{all_named, InitDeclr', InitDeclrs, Param', ParamList, Params', Starred, Nameable, Outermost, Units, Tree}
 use Rattle.sa_syntax.specs.Reading.{Parser, Read, Got, Deep, and_then, sees, expect, opens_any, opens, name_at, key_at, turns, ◌>>=◌}
-use Rattle.sa_syntax.specs.Refusals.{GoesTooDeep}
+use Rattle.sa_syntax.specs.Refusals.{Begins}
 use Rattle.sa_syntax.specs.ReadExpr.{is_some}
 use Rattle.sa_syntax.specs.ReadStmt as read
 use Rattle.sa_syntax.specs.ReadStmt.{takes, within, list}
@@ -38,7 +38,7 @@ use Rattle.sa_syntax.proofs.DeepStmt as stmt_fine
 use Rattle.sa_syntax.proofs.DeepUnit as fine
 use Rattle.sa_syntax.proofs.ClosingLemmas.{Closed, Calm, Good, Any, Some', calm_then, calm_if, calm_ends, closed_calm, closed_map, closed_if, closed_then, closed_next, closed_last, closed_tail, closed_opens, list_closed, calm_expect, calm_any_name, good_any_name, stepped}
 use Rattle.sa_syntax.proofs.ClosingExpr as closing
-use Rattle.sa_syntax.proofs.ClosingExpr.{spot, close, letter, letter_declr, int_type, good_type, all_closed, Opener, plain}
+use Rattle.sa_syntax.proofs.ClosingExpr.{spot, close, letter, letter_declr, good_type, all_closed, Opener, plain}
 use Rattle.sa_syntax.proofs.ClosingStmt.{specifiers_closed, init_declr_closed}
 use Rattle.sa_syntax.proofs.ClosingBodies.{outermost_closed}
 
@@ -184,16 +184,24 @@ append_none : (xs : List Token) → xs ++ [] ≡ xs
 append_none [] = refl
 append_none (x ∷ xs) = ap (λ z. x ∷ z) (append_none xs)
 
-too_deep : (n : ℕ) (ts us : List Token) (x : Read Source) → read.source n ts ≡ x → x ≡ Deep us → Closed Any (Whole []) n ts x → (d : GoesTooDeep n ts) × (us ≡ d.token ∷ d.after)
-too_deep n ts us _ f e Closed.got = cc
-too_deep n ts us _ f e Closed.stuck = cc
-too_deep n ts us _ f e (Closed.deep {t} {r} b tail more same h o w) =
+-- some text begins with the tokens up to the one that is told
+pub record Reached (ts us : List Token) : Type 0 where
+  pub before : List Token
+  pub token : Token
+  pub behind : List Token
+  pub is : ts ≡ before ++ token ∷ behind
+  pub told : us ≡ token ∷ behind
+  pub begins : Begins (before ++ token ∷ [])
+
+too_deep : (n : ℕ) (ts us : List Token) (x : Read Source) → x ≡ Deep us → Closed Any (Whole []) n ts x → Reached ts us
+too_deep n ts us _ e Closed.got = cc
+too_deep n ts us _ e Closed.stuck = cc
+too_deep n ts us _ e (Closed.deep {t} {r} b tail more same h o w) =
     let us_is : us ≡ t ∷ r = cc in
-    let at : read.source n (b ++ t ∷ r) ≡ Deep (t ∷ r) = subst (λ z. read.source n z ≡ Deep (t ∷ r)) same f in
     let v = w [] refl in
     let begins : Tree more (b ++ t ∷ tail) (tree.source (v.0)) = subst (λ z. Tree more (b ++ t ∷ z) (tree.source (v.0))) (append_none tail) (v.1) in
     let whole : Tree more ((b ++ t ∷ []) ++ tail) (tree.source (v.0)) = subst (λ z. Tree more z (tree.source (v.0))) (sym (append_assoc b (t ∷ []) tail)) begins in
-    (record { before = b; token = t; after = r; is = same; begins = (more, tail, tree.source (v.0), whole); none = λ tail u. fine.none_within n b t r tail u at }, us_is)
+    record { before = b; token = t; behind = r; is = same; told = us_is; begins = (more, tail, tree.source (v.0), whole) }
 
-pub told_depth : (n : ℕ) (ts us : List Token) → read.source n ts ≡ Deep us → (d : GoesTooDeep n ts) × (us ≡ d.token ∷ d.after)
-told_depth n ts us e = too_deep n ts us (read.source n ts) refl e (source_closed n ts)
+pub reached : (n : ℕ) (ts us : List Token) → read.source n ts ≡ Deep us → Reached ts us
+reached n ts us e = too_deep n ts us (read.source n ts) e (source_closed n ts)

@@ -25,9 +25,13 @@ pub mod ClosingExpr
 pub mod ClosingStmt
 pub mod ClosingBodies
 pub mod ClosingUnit
+pub mod NearLemmas
+pub mod NearExpr
+pub mod NearStmt
 pub mod EndsLemmas
 pub mod EndsExpr
 pub mod EndsStmt
 pub mod EndsBodies
 pub mod EndsUnit
+pub mod Nesting
 pub mod Samples

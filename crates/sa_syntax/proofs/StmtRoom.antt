@@ -392,7 +392,7 @@ module _ (ns : Names) (n : ℕ) (bodies : Bodies) (ts : List Token) (unnamed : u
   no_stmt_by (Some k.Assert) h e = cc
   no_stmt_by (Some w) h e = refl
 
-none_read : (ns : Names) (n : ℕ) (bodies : Bodies) (ts : List Token) → read.begins_stmt ns ts ≡ false → read.stmt ns n bodies ts ≡ Stuck ts
+pub none_read : (ns : Names) (n : ℕ) (bodies : Bodies) (ts : List Token) → read.begins_stmt ns ts ≡ false → read.stmt ns n bodies ts ≡ Stuck ts
 unfolding read.stmt read.begins_stmt
 none_read ns n bodies ts h =
     let all = or_parts (read.test_in read.key_begins (key_at ts) || read.test_in read.mark_begins (mark_at ts)) (is_some (unless_type ns (name_at ts))) h in

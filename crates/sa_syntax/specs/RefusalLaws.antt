@@ -12,4 +12,4 @@ TellsDepth = (n : ℕ) (ts us : List Token) → source n ts ≡ Deep us → (d :
 
 -- What is refused otherwise is refused at the first token with which no text begins, or at the end of a text that isn't finished.
 abbrev pub TellsPlace : Type 0
-TellsPlace = (n : ℕ) (ts us : List Token) → source n ts ≡ Stuck us → FailsAt ts us
+TellsPlace = (n : ℕ) (ts us : List Token) → source n ts ≡ Stuck us → FailsAt n ts us
