@@ -30,7 +30,8 @@ use Rattle.sa_syntax.specs.ReadStmt.{takes, within, list}
 use Rattle.sa_syntax.specs.declared.stmt.BlockItem.{BlockItem}
 use Rattle.sa_syntax.proofs.ReadingLemmas.{map_yields, Marked, Opened, opens_yields, IsWord, Keyed, key_at_is}
 use Rattle.sa_syntax.proofs.RoomLemmas.{less_opens}
-use Rattle.sa_syntax.proofs.StmtRoom as room
+use Rattle.sa_syntax.proofs.NearLemmas.{wider}
+use Rattle.sa_syntax.proofs.NearStmt as near
 use Rattle.sa_syntax.proofs.StmtSound as stmt_sound
 use Rattle.sa_syntax.proofs.UnitSound as sound
 use Rattle.sa_syntax.proofs.DeepLemmas.{loosen, fine_opens}
@@ -52,7 +53,7 @@ param_closed ns n ts = closed_last n ts [] (λ more ss t rest i. (tree.param t N
     (λ t us. calm_then (calm_star us) (λ star vs. calm_if (is_some (name_at vs)) (calm_then (calm_any_name vs) (λ x ws. Calm.got)) Calm.got))
 
 good_param : (ns : Names) → Good (λ n. read.param ns n) (Param' ns)
-good_param ns = record { fine = fine.param_fine ns; less = room.param_room ns; sound = sound.param_sound ns }
+good_param ns = record { fine = fine.param_fine ns; less = wider _ (near.param_near ns); sound = sound.param_sound ns }
 
 void-word : (w : Word) (p : Pos) (r s : List Token) → plain w ≡ false → let t : Token = record { word = w; pos = p } in is_void_alone (t ∷ r) ≡ is_void_alone (t ∷ s)
 unfolding is_void_alone
@@ -79,7 +80,7 @@ params_closed ns n ts = closed_if (sees m.CloseParen ts) (λ h. Closed.got) (λ 
     (λ g. in_list ns n ts g (list_closed (Param' ns) (ParamList ns) m.CloseParen (λ n. read.param ns n) (good_param ns) (λ more ts x p us i. ParamList.last_param i) (λ more ts x p us xs vs i go. ParamList.next_param i go) n (param_closed ns n) ts) (λ ps us. Calm.got)))
 
 good_params : (ns : Names) → Good (λ n. read.params ns n) (Params' ns)
-good_params ns = record { fine = fine.params_fine_at ns; less = room.params_room ns; sound = sound.params_sound ns }
+good_params ns = record { fine = fine.params_fine_at ns; less = wider _ (near.params_near ns); sound = sound.params_sound ns }
 
 -- ---- items
 abbrev InFront : Names → ℕ → List Token → Item → List Token → Type 0
@@ -127,7 +128,7 @@ function_closed ns n t us = closed_next good_any_name n us (calm_any_name us) (�
     (λ i h p ws. closed_then (good_params ns) i ws (close m.Semicolon ∷ []) (λ more xs ps rest j us w ss s. proto_some ns more ss t us x p xs ps rest s w j) (params_closed ns i ws) (λ ps xs. ends_closed ns i t x p ps xs)))
 
 good_init_declr : (ns : Names) → Good (λ n. read.init_declr ns n) (InitDeclr' ns)
-good_init_declr ns = record { fine = λ n. loosen (stmt_fine.init_declr_fine ns n); less = room.init_declr_room ns; sound = stmt_sound.init_declr_sound ns }
+good_init_declr ns = record { fine = λ n. loosen (stmt_fine.init_declr_fine ns n); less = wider _ (near.init_declr_near ns); sound = stmt_sound.init_declr_sound ns }
 
 global_closed : (ns : Names) (n : ℕ) (t : Specifiers) (us : List Token) → Closed Any (Typed ns t) n us (read.global ns n t us)
 unfolding read.global
@@ -161,7 +162,7 @@ unfolding read.an_item
 an_item_closed ns n ts = item_by_closed ns n (key_at ts) ts refl
 
 good_item : (ns : Names) → Good (λ n. read.an_item ns n) (InFront ns)
-good_item ns = record { fine = λ n. loosen (fine.an_item_fine ns n); less = room.an_item_room ns; sound = sound.an_item_sound ns }
+good_item ns = record { fine = λ n. loosen (fine.an_item_fine ns n); less = wider _ (near.an_item_near ns); sound = sound.an_item_sound ns }
 
 -- ---- sources
 -- a whole source, where nothing follows

@@ -28,7 +28,7 @@ use Rattle.sa_syntax.specs.Refusals.{BeginsNone, HasNoTree}
 use Rattle.sa_syntax.specs.ReadExpr.{is_some}
 use Rattle.sa_syntax.specs.ReadStmt as read
 use Rattle.sa_syntax.specs.ReadStmt.{takes, within, list}
-use Rattle.sa_syntax.proofs.StmtRoom.{sources_agree}
+use Rattle.sa_syntax.proofs.NearStmt.{sources_agree}
 use Rattle.sa_syntax.proofs.StmtShorter.{param-shorter}
 use Rattle.sa_syntax.proofs.UnitSound.{bare_struct}
 use Rattle.sa_syntax.proofs.UnitComplete.{source-complete}

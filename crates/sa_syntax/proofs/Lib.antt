@@ -1,10 +1,11 @@
 pub mod ReadingLemmas
 pub mod ExprSound
 pub mod RoomLemmas
-pub mod ExprRoom
+pub mod NearLemmas
+pub mod NearExpr
+pub mod NearStmt
 pub mod StmtSound
 pub mod UnitSound
-pub mod StmtRoom
 pub mod Shorter
 pub mod Front
 pub mod ReadSteps
@@ -25,9 +26,6 @@ pub mod ClosingExpr
 pub mod ClosingStmt
 pub mod ClosingBodies
 pub mod ClosingUnit
-pub mod NearLemmas
-pub mod NearExpr
-pub mod NearStmt
 pub mod EndsLemmas
 pub mod EndsExpr
 pub mod EndsStmt

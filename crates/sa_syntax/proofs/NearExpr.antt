@@ -1,5 +1,5 @@
 -- Expressions, places and types where more may be open.
-use Rattle.std.proofs.Common.{◌≡◌, ℕ, zero, suc, ◌+◌, List, [], ◌∷◌, Bool, true, false, cond, refl, sym, ap, ◌∙◌, subst, arith, Option, Some, None}
+use Rattle.std.proofs.Common.{◌≡◌, ℕ, zero, suc, ◌+◌, ◌≤◌, ◌⊎◌, List, [], ◌∷◌, Bool, true, false, cond, refl, sym, ap, ◌∙◌, subst, arith, Option, Some, None}
 use Rattle.sa_base.specs.declared.pos.Pos.{Pos}
 use Rattle.sa_tokens.specs.declared.keyword.Keyword.{Keyword}
 use Rattle.sa_tokens.specs.declared.keyword.Keyword.TheVariants as k
@@ -15,7 +15,8 @@ use Rattle.sa_syntax.specs.Words.{Names, mark, is_through, prefix_of, loosest}
 use Rattle.sa_syntax.specs.Reading.{Parser, Got, Stuck, Deep, same_mark, sees, after, expect, any_name, variable, name_at, key_at, mark_at, while_from, many}
 use Rattle.sa_syntax.specs.ReadExpr as read
 use Rattle.sa_syntax.specs.ReadExpr.{Inner, inside, layer}
-use Rattle.sa_syntax.proofs.NearLemmas.{Near, NotGot, not_then, not_stuck, not_deep, near_then, near_if, near_opens_any, near_other, near_paren, near_many, opens_shut}
+use Rattle.sa_syntax.proofs.RoomLemmas.{agree}
+use Rattle.sa_syntax.proofs.NearLemmas.{wider, Near, NotGot, not_then, not_stuck, not_deep, near_then, near_if, near_opens_any, near_other, near_paren, near_many, opens_shut}
 
 -- The readers one deeper have more room. Where none is left with less, none is left for a bracket with one more.
 pub record IsNear (j n : ℕ) (inner wide : Inner) : Type 0 where
@@ -302,3 +303,6 @@ specifiers_at ns j n more e = specifiers_near ns j n more (inside ns n) (inside 
 
 pub declr_at : (ns : Names) (j n more : ℕ) → n + j ≡ more → (ts : List Token) → Near j (read.declr ns n (inside ns n) ts) (read.declr ns more (inside ns more) ts)
 declr_at ns j n more e = declr_near ns j n more (inside ns n) (inside ns more) e (inside_near ns j n more e)
+
+pub expressions_agree : (ns : Names) (n more : ℕ) → n ≤ more → (ts : List Token) → ((vs : List Token) × (read.whole ns n (inside ns n) ts ≡ Deep vs)) ⊎ (read.whole ns n (inside ns n) ts ≡ read.whole ns more (inside ns more) ts)
+expressions_agree ns n more h ts = agree (wider (λ n. read.whole ns n (inside ns n)) (whole_at ns) n more h ts)

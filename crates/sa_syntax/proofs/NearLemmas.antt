@@ -1,6 +1,6 @@
 -- Readers with more room answer the same, unless the one with less ran out of it; then the other one ends no text that goes on with
 -- tokens at each of which as many more are open.
-use Rattle.std.proofs.Common.{◌≡◌, ℕ, zero, suc, ◌+◌, List, [], ◌∷◌, ◌++◌, Bool, true, false, cond, refl, sym, ap, subst, arith, Some, None}
+use Rattle.std.proofs.Common.{◌≡◌, ℕ, zero, suc, ◌+◌, ◌-◌, ◌≤◌, List, [], ◌∷◌, ◌++◌, Bool, true, false, cond, refl, sym, ap, subst, arith, Some, None}
 use Rattle.sa_base.specs.declared.pos.Pos.{Pos}
 use Rattle.sa_tokens.specs.declared.keyword.Keyword.{Keyword}
 use Rattle.sa_tokens.specs.declared.keyword.Keyword.TheVariants as k
@@ -12,6 +12,7 @@ use Rattle.sa_syntax.specs.Refusals.{takes_bracket, takes_two}
 use Rattle.sa_syntax.specs.Reading.{Read, Got, Stuck, Deep, Parser, and_then, same_mark, sees, after, mark_at, opens_any, opens, turns, while_from, many}
 use Rattle.sa_syntax.specs.ReadStmt.{within, list_from, list}
 use Rattle.sa_syntax.proofs.ReadingLemmas.{Marked, sees_is}
+use Rattle.sa_syntax.proofs.RoomLemmas.{Less}
 
 -- so many tokens follow the first, at each of which one more is open
 pub data Next (j : ℕ) (us : List Token) : Type 0 where
@@ -42,6 +43,13 @@ not_deep {A} e = subst (λ (r : Read A). NotGot r) (sym e) tt
 pub data Near (j : ℕ) {A : Type 0} : Read A → Read A → Type 0 where
   out : {us : List Token} {s : Read A} → (Next j us → NotGot s) → Near j (Deep us) s
   same : {r : Read A} → Near j r r
+
+forget : {A : Type 0} {j : ℕ} {r s : Read A} → Near j r s → Less r s
+forget (Near.out h) = Less.out
+forget Near.same = Less.same
+
+pub wider : {A : Type 0} (p : ℕ → Parser A) → ((j n more : ℕ) → n + j ≡ more → (ts : List Token) → Near j (p n ts) (p more ts)) → (n more : ℕ) → n ≤ more → (ts : List Token) → Less (p n ts) (p more ts)
+wider p near n more h ts = forget (near (more - n) n more (omega (arith, h)) ts)
 
 near_next : {A B : Type 0} {j : ℕ} (r : Read A) {f g : A → Parser B} → ((a : A) (us : List Token) → Near j (f a us) (g a us)) → Near j (and_then r f) (and_then r g)
 near_next (Got a us) go = go a us

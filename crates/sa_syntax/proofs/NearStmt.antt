@@ -1,6 +1,7 @@
 -- Statements, functions and sources where more may be open.
-use Rattle.std.proofs.Common.{◌≡◌, ℕ, zero, suc, ◌-◌, ◌+◌, List, [], ◌∷◌, ◌++◌, Bool, true, false, cond, refl, sym, subst, arith, Option, Some, None}
-use Rattle.std.specs.Prelude.{◌&&◌}
+use Rattle.std.proofs.Common.{◌≡◌, ℕ, zero, suc, ◌-◌, ◌+◌, ◌≤◌, ◌⊎◌, ap, ◌∙◌, List, [], ◌∷◌, ◌++◌, Bool, true, false, cond, refl, sym, subst, arith, Option, Some, None}
+use Rattle.std.specs.Prelude.{◌&&◌, ◌||◌}
+use Rattle.std.proofs.lemmas.Bool.{or_parts}
 use Rattle.sa_base.specs.declared.pos.Pos.{Pos}
 use Rattle.sa_tokens.specs.declared.keyword.Keyword.{Keyword}
 use Rattle.sa_tokens.specs.declared.keyword.Keyword.TheVariants as k
@@ -27,13 +28,13 @@ use Rattle.sa_syntax.specs.Trees as tree
 use Rattle.sa_syntax.specs.Refusals.{takes_bracket, takes_two}
 use Rattle.sa_syntax.specs.Words.{Names, mark, key, begins_with_star, begins_with_else, begins_with_label, is_void_alone}
 use Rattle.sa_syntax.specs.Statements.{all_named}
-use Rattle.sa_syntax.specs.Reading.{Parser, Got, Stuck, Deep, and_then, pure, ◌>>=◌, same_mark, opens_any, opens, sees, after, expect, any_name, variable, name_at, key_at, mark_at, turns}
-use Rattle.sa_syntax.specs.ReadExpr.{begins_type, sees_qualifier, sees_scalar, inside}
+use Rattle.sa_syntax.specs.Reading.{Parser, Got, Stuck, Deep, and_then, pure, ◌>>=◌, same_mark, opens_any, opens, sees, after, expect, any_name, variable, name_at, key_at, mark_at, unless_type, taken, turns}
+use Rattle.sa_syntax.specs.ReadExpr.{begins_type, is_some, sees_qualifier, sees_scalar, inside}
 use Rattle.sa_syntax.specs.ReadExpr as expr
 use Rattle.sa_syntax.specs.ReadStmt as read
 use Rattle.sa_syntax.specs.ReadStmt.{Bodies, takes, list_from}
-use Rattle.sa_syntax.proofs.StmtRoom.{none_read}
-use Rattle.sa_syntax.proofs.NearLemmas.{Next, Near, NotGot, not_then, not_deep, near_then, near_if, near_if_reader, near_within, near_other, near_paren, near_many, near_list, opens_shut}
+use Rattle.sa_syntax.proofs.RoomLemmas.{agree}
+use Rattle.sa_syntax.proofs.NearLemmas.{wider, Next, Near, NotGot, not_then, not_deep, near_then, near_if, near_if_reader, near_within, near_other, near_paren, near_many, near_list, opens_shut}
 use Rattle.sa_syntax.proofs.NearExpr.{whole_at, place_at, specifiers_at, declr_at, whole_shut, place_shut, type_shut}
 
 -- ---- initialisers
@@ -402,6 +403,69 @@ module _ (ns : Names) (j n more : ℕ) (bodies wide : Bodies) (room : n + j ≡ 
   unfolding read.groups
   groups_near = near_many begins_with_label (read.a_group ns n bodies) (read.a_group ns more wide) a_group_near
 
+-- ---- where no statement begins, none is read
+not_some : {A : Type 0} (o : Option A) → is_some o ≡ false → o ≡ None
+not_some None h = refl
+not_some (Some x) h = cc
+
+module _ (ns : Names) (n : ℕ) (bodies : Bodies) (ts : List Token) (unnamed : unless_type ns (name_at ts) ≡ None) where
+  no_variable : variable ns ts ≡ Stuck ts
+  unfolding variable
+  no_variable = ap (λ o. taken o ts) unnamed
+
+  no_by_name : expr.by_name ns n (inside ns n) ts ≡ Stuck ts
+  unfolding expr.by_name
+  no_by_name = ap (λ r. and_then r (λ x us. and_then (expr.steps ns n (inside ns n) us) (λ ss vs. Got (tree.place (at.Name x) ss) vs))) no_variable
+
+  no_place_by : (o : Option Punct) → read.test_in read.mark_begins o ≡ false → expr.place_by ns n (inside ns n) o ts ≡ Stuck ts
+  no_place_by (Some m.OpenParen) h = cc
+  no_place_by (Some m.Star) h = cc
+  no_place_by o h = no_by_name
+
+  no_place : read.test_in read.mark_begins (mark_at ts) ≡ false → expr.place ns n (inside ns n) ts ≡ Stuck ts
+  unfolding expr.place
+  no_place h = no_place_by (mark_at ts) h
+
+  no_call : read.sees_call ns ts ≡ false
+  unfolding read.sees_call
+  no_call = ap (λ o. read.is_some_and o (sees m.OpenParen (after ts))) unnamed
+
+  no_placed : read.test_in read.mark_begins (mark_at ts) ≡ false → read.placed ns n bodies ts ≡ Stuck ts
+  unfolding read.placed
+  no_placed h =
+      ap (λ b. cond b (read.call_stmt ns n bodies ts) (and_then (expr.place ns n (inside ns n) ts) (read.assigned_stmt ns n bodies (begins_with_star ts)))) no_call
+      ∙ ap (λ r. and_then r (read.assigned_stmt ns n bodies (begins_with_star ts))) (no_place h)
+
+  no_mark_stmt : (o : Option Punct) → read.test_in read.mark_begins o ≡ false → read.placed ns n bodies ts ≡ Stuck ts → read.mark_stmt ns n bodies o ts ≡ Stuck ts
+  no_mark_stmt (Some m.OpenBrace) h e = cc
+  no_mark_stmt (Some m.Semicolon) h e = cc
+  no_mark_stmt (Some m.PlusPlus) h e = cc
+  no_mark_stmt (Some m.MinusMinus) h e = cc
+  no_mark_stmt o h e = e
+
+  no_stmt_by : (o : Option Keyword) → read.test_in read.key_begins o ≡ false → read.mark_stmt ns n bodies (mark_at ts) ts ≡ Stuck ts → read.stmt_by ns n bodies o ts ≡ Stuck ts
+  no_stmt_by None h e = e
+  no_stmt_by (Some k.If) h e = cc
+  no_stmt_by (Some k.While) h e = cc
+  no_stmt_by (Some k.Do) h e = cc
+  no_stmt_by (Some k.For) h e = cc
+  no_stmt_by (Some k.Switch) h e = cc
+  no_stmt_by (Some k.Break) h e = cc
+  no_stmt_by (Some k.Return) h e = cc
+  no_stmt_by (Some k.WaitForClock) h e = cc
+  no_stmt_by (Some k.Partition) h e = cc
+  no_stmt_by (Some k.KnownFact) h e = cc
+  no_stmt_by (Some k.Assert) h e = cc
+  no_stmt_by (Some w) h e = refl
+
+none_read : (ns : Names) (n : ℕ) (bodies : Bodies) (ts : List Token) → read.begins_stmt ns ts ≡ false → read.stmt ns n bodies ts ≡ Stuck ts
+unfolding read.stmt read.begins_stmt
+none_read ns n bodies ts h =
+    let all = or_parts (read.test_in read.key_begins (key_at ts) || read.test_in read.mark_begins (mark_at ts)) (is_some (unless_type ns (name_at ts))) h in
+    let words = or_parts (read.test_in read.key_begins (key_at ts)) (read.test_in read.mark_begins (mark_at ts)) all.0 in
+    let unnamed = not_some (unless_type ns (name_at ts)) all.1 in
+    no_stmt_by ns n bodies ts unnamed (key_at ts) words.0 (no_mark_stmt ns n bodies ts unnamed (mark_at ts) words.1 (no_placed ns n bodies ts unnamed words.1))
+
 -- ---- where no statement may be open
 stmt_if : (ns : Names) (bodies : Bodies) (w : Keyword) (p q : Pos) (vs : List Token) → takes_bracket w ≡ true → NotGot (read.stmt ns zero bodies (key w p ∷ mark m.OpenParen q ∷ vs))
 unfolding read.stmt read.if_stmt read.while_stmt read.for_stmt read.switch_stmt read.condition key_at
@@ -536,3 +600,6 @@ items_from_near j n more room (suc left) ns found (t ∷ ts) = near_then (an_ite
 pub source_near : (j n more : ℕ) → n + j ≡ more → (ts : List Token) → Near j (read.source n ts) (read.source more ts)
 unfolding read.source
 source_near j n more room ts = near_then (items_from_near j n more room (turns ts) [] [] ts) (λ is us. Near.same)
+
+pub sources_agree : (n more : ℕ) → n ≤ more → (ts : List Token) → ((vs : List Token) × (read.source n ts ≡ Deep vs)) ⊎ (read.source n ts ≡ read.source more ts)
+sources_agree n more h ts = agree (wider (λ n. read.source n) source_near n more h ts)
