@@ -61,9 +61,9 @@ fn fault_at(stop: Stop, pos: Pos) -> ParseFault
     }
 }
 
-/// The tree of a source, whose last byte stands before `end`. It errs with `Syntax` at the first token with which the tokens up to
-/// it begin no text of the grammar, or at `end` where they begin one and are none, and with `TooDeep` at a token at which more than
-/// 200 brackets, prefix operators, choices and statements are open.
+/// The tree of a source, whose last byte stands before `end`. Where there is none it errs at the first token with which the tokens
+/// up to it begin no text of the grammar, or at `end` where they begin one and are none, with `Syntax`; or with `TooDeep` at a token
+/// before that, the first at which more than 200 brackets, prefix operators, choices and statements are open.
 pub fn parse(alloc: Global, tokens: &[Token], end: Pos) -> Result<Unit, ParseFault>
     ensures ok { IfOk result (IsSource tokens.now) }
     ensures fault { IfErr result (IsFault tokens.now end) }

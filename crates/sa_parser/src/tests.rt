@@ -181,6 +181,45 @@ fn which_comes_first_of_an_error_and_the_limit(rt: HostRuntime) -> Result<(), Fa
 }
 
 #[test]
+fn at_which_token_the_limit_is_told(rt: HostRuntime) -> Result<(), Fail> {
+    let alloc = rt.alloc();
+    let brackets = format!(in alloc; "int x = {}1", "(".repeat(alloc, 201)?)?;
+    let prefixes = format!(in alloc; "int x = {}1", "- ".repeat(alloc, 201)?)?;
+    let casts = format!(in alloc; "int x = {}1", "(int)".repeat(alloc, 201)?)?;
+    let choices = format!(in alloc; "int x = {}1", "1 ? ".repeat(alloc, 201)?)?;
+    let blocks = format!(in alloc; "void f(void) {{ {}", "{ ".repeat(alloc, 101)?)?;
+    let words = format!(in alloc; "void f(void) {{ {}", "if (1) ".repeat(alloc, 200)?)?;
+    let bodies = format!(in alloc; "void f(void) {{ {};", "do ".repeat(alloc, 200)?)?;
+    let ifs = "if (1) ".repeat(alloc, 198)?;
+    let first = format!(in alloc; "void f(void) {{ {}if (1) __ASTREE_assert((", ifs)?;
+    let second = format!(in alloc; "void f(void) {{ {}__ASTREE_assert((", ifs)?;
+    let no_first = format!(in alloc; "void f(void) {{ {}if (1) __ASTREE_assert;", ifs)?;
+    let no_second = format!(in alloc; "void f(void) {{ {}__ASTREE_assert(1", ifs)?;
+    let cases = [
+        (&brackets, ParseFault::TooDeep(at(1, 209))),
+        (&prefixes, ParseFault::TooDeep(at(1, 409))),
+        // Its bracket counts beside the casts before it.
+        (&casts, ParseFault::TooDeep(at(1, 1009))),
+        (&choices, ParseFault::TooDeep(at(1, 811))),
+        // Each block is a bracket, and all but the first are a statement in a statement.
+        (&blocks, ParseFault::TooDeep(at(1, 216))),
+        (&words, ParseFault::TooDeep(at(1, 1412))),
+        (&bodies, ParseFault::TooDeep(at(1, 616))),
+        (&first, ParseFault::TooDeep(at(1, 1424))),
+        (&second, ParseFault::TooDeep(at(1, 1418))),
+        (&no_first, ParseFault::Syntax(at(1, 1424))),
+        (&no_second, ParseFault::Syntax(at(1, 1418))),
+    ];
+    for (source, expected) in cases {
+        match read(alloc, source) {
+            Ok(_) => assert!(rt; false, "{source}"),
+            Err(fault) => assert_eq!(rt; fault, expected, "{source}"),
+        }
+    }
+    Ok(())
+}
+
+#[test]
 fn else_belongs_to_the_nearest_if(rt: HostRuntime) -> Result<(), Fail> {
     let alloc = rt.alloc();
     let unit = read(alloc, "void f(void) { if (a) if (b) ; else ; }");

@@ -36,14 +36,15 @@ use Rattle.sa_syntax.proofs.ExprSound.{Within}
 use Rattle.sa_syntax.proofs.StmtSound as sound
 use Rattle.sa_syntax.proofs.StmtSound.{InBrackets}
 use Rattle.sa_syntax.proofs.RoomLemmas.{less_many}
-use Rattle.sa_syntax.proofs.StmtRoom as room
+use Rattle.sa_syntax.proofs.NearLemmas.{wider}
+use Rattle.sa_syntax.proofs.NearStmt as near
 use Rattle.sa_syntax.proofs.DeepLemmas.{loosen, fine_many}
 use Rattle.sa_syntax.proofs.DeepStmt as fine
 use Rattle.sa_syntax.proofs.ClosingLemmas.{Closed, Calm, Good, Any, Some', Front, calm_then, calm_takes, calm_ends, closed_calm, closed_map, closed_if, deeper_room, closed_then, closed_next, closed_last, closed_tail, closed_opens, closed_many, closed_through, direct_many, calm_expect, good_expect, stepped}
 use Rattle.sa_syntax.proofs.ClosingExpr.{spot, close, nought, fresh, fresh-is, zero-whole}
 use Rattle.sa_syntax.proofs.UnitSound as unit_sound
 use Rattle.sa_syntax.proofs.UnitSound.{bodies_sound}
-use Rattle.sa_syntax.proofs.StmtRoom.{bodies_room, stmt_less}
+use Rattle.sa_syntax.proofs.NearStmt.{bodies_near, stmt_at_near}
 use Rattle.sa_syntax.proofs.DeepUnit.{bodies_fine}
 use Rattle.sa_syntax.proofs.ClosingStmt.{zero_expr, place_closed, good_place, call_closed, assigned_closed, simple_closed, local_closed, bare_closed, with_expr_closed, ended_closed, condition_closed, good_condition, first_of_closed, expr_before_closed, simple_before_closed, good_first, good_expr_before, good_simple_before, a_label_closed, good_label, more_labels_closed}
 
@@ -112,7 +113,7 @@ abbrev inner_stmt : Names → ℕ → Parser Stmt
 inner_stmt ns n = (read.bodies ns n).stmt
 
 good_inner : (ns : Names) → Good (inner_stmt ns) (Within (Stmt' ns))
-good_inner ns = record { fine = λ n. loosen (bodies_fine ns n).stmt; less = λ n more h. (bodies_room ns n more h).stmt; sound = λ n. (bodies_sound ns n).stmt }
+good_inner ns = record { fine = λ n. loosen (bodies_fine ns n).stmt; less = wider (λ n. (read.bodies ns n).stmt) (λ j n more e. (bodies_near ns j n more e).stmt); sound = λ n. (bodies_sound ns n).stmt }
 
 -- groups, where no label follows
 abbrev pub EndedGroups : Names → ℕ → List Token → List Group → List Token → Type 0
@@ -225,7 +226,7 @@ module _ (ns : Names) (n : ℕ) (inner : Inner ns n) where
       closed_last n vs [] (λ more ws a rest i us w. while_one ns more p us c ws a rest w i) (inner.stmt vs) (λ a ws. Calm.got)))
 
   good_while : Good (λ n. read.expect_while ns n (read.bodies ns n)) (λ _ ts p us. KeyAt k.While ts p us)
-  good_while = record { fine = λ n. loosen (fine.expect_while_fine ns n (read.bodies ns n) (bodies_fine ns n)); less = λ n more h. room.expect_while_room ns n more (read.bodies ns n) (read.bodies ns more) h (bodies_room ns n more h); sound = λ n. unit_sound.expect_while_sound ns n (read.bodies ns n) (bodies_sound ns n) }
+  good_while = record { fine = λ n. loosen (fine.expect_while_fine ns n (read.bodies ns n) (bodies_fine ns n)); less = wider (λ n. read.expect_while ns n (read.bodies ns n)) (λ j n more e. near.expect_while_near ns j n more (read.bodies ns n) (read.bodies ns more) e (bodies_near ns j n more e)); sound = λ n. unit_sound.expect_while_sound ns n (read.bodies ns n) (bodies_sound ns n) }
 
   calm_while_by : (o : Option Keyword) (ts : List Token) → Calm (read.while_by ns n (read.bodies ns n) o ts)
   calm_while_by (Some k.While) ts = calm_takes ts
@@ -324,16 +325,16 @@ module _ (ns : Names) (n : ℕ) (inner : Inner ns n) where
   unfolding read.block_items
   nested_closed ts = closed_many (Nested ns) (λ more us. Nested.no_item) read.no_close (fine.close_ahead ns n (read.bodies ns n) (bodies_fine ns n)) (λ n. read.block_item ns n (read.bodies ns n) (inner_stmt ns n))
       (λ n. fine.block_item_fine ns n (read.bodies ns n) (bodies_fine ns n) (inner_stmt ns n) (bodies_fine ns n).stmt)
-      (λ n more h. room.block_item_room ns n more (read.bodies ns n) (read.bodies ns more) h (bodies_room ns n more h) (inner_stmt ns n) (inner_stmt ns more) (bodies_room ns n more h).stmt)
+      (wider (λ n. read.block_item ns n (read.bodies ns n) (inner_stmt ns n)) (λ j n more e. near.block_item_near ns j n more (read.bodies ns n) (read.bodies ns more) e (bodies_near ns j n more e) (inner_stmt ns n) (inner_stmt ns more) (bodies_near ns j n more e).stmt))
       (λ n ts h. unit_sound.nested_item_sound ns n (read.bodies ns n) (bodies_sound ns n) (inner_stmt ns n) (bodies_sound ns n).stmt ts) n (λ ts h. nested_item_closed ts) ts
 
   stmts_closed : (ts : List Token) → Closed Any (Some' (Body ns)) n ts (many (read.goes_on ns n (read.bodies ns n)) (inner_stmt ns n) ts)
   stmts_closed ts = closed_many (Body ns) (λ more us. Body.no_stmt) (read.goes_on ns n (read.bodies ns n)) (fine.goes_on_ahead ns n (read.bodies ns n) (bodies_fine ns n)) (inner_stmt ns)
-      (λ n. (bodies_fine ns n).stmt) (λ n more h. (bodies_room ns n more h).stmt) (λ n ts h. map_yields (λ a us i. body_front ns n ts a us i) ((bodies_sound ns n).stmt ts)) n
+      (λ n. (bodies_fine ns n).stmt) (wider (λ n. (read.bodies ns n).stmt) (λ j n more e. (bodies_near ns j n more e).stmt)) (λ n ts h. map_yields (λ a us i. body_front ns n ts a us i) ((bodies_sound ns n).stmt ts)) n
       (λ ts h. closed_map (λ more us vs x. (x.0, body_front ns more us (x.0) vs (x.1))) (inner.stmt ts)) ts
 
   good_more_labels : Good (λ n. many begins_with_label (read.a_label ns n)) (λ more ts ls us. sound.MoreLabels ns more ts ls us)
-  good_more_labels = record { fine = λ n. fine_many begins_with_label fine.label_ahead (fine.a_label_fine ns n); less = λ n more h. less_many begins_with_label (read.a_label ns n) (read.a_label ns more) (room.a_label_room ns n more h); sound = sound.more_labels_sound ns }
+  good_more_labels = record { fine = λ n. fine_many begins_with_label fine.label_ahead (fine.a_label_fine ns n); less = λ n more h. less_many begins_with_label (read.a_label ns n) (read.a_label ns more) (wider (read.a_label ns) (near.a_label_near ns) n more h); sound = sound.more_labels_sound ns }
 
   a_group_closed : (ts : List Token) → Closed Any (Some' (EndedGroups ns)) n ts (read.a_group ns n (read.bodies ns n) ts)
   unfolding read.a_group
@@ -345,7 +346,7 @@ module _ (ns : Names) (n : ℕ) (inner : Inner ns n) where
   groups_closed : (ts : List Token) → Closed Any (Some' (EndedGroups ns)) n ts (read.groups ns n (read.bodies ns n) ts)
   unfolding read.groups
   groups_closed ts = direct_many (EndedGroups ns) begins_with_label fine.label_ahead (λ n. read.a_group ns n (read.bodies ns n))
-      (λ n. fine.a_group_fine ns n (read.bodies ns n) (bodies_fine ns n)) (λ n more h. room.a_group_room ns n more (read.bodies ns n) (read.bodies ns more) h (bodies_room ns n more h))
+      (λ n. fine.a_group_fine ns n (read.bodies ns n) (bodies_fine ns n)) (wider (λ n. read.a_group ns n (read.bodies ns n)) (λ j n more e. near.a_group_near ns j n more (read.bodies ns n) (read.bodies ns more) e (bodies_near ns j n more e)))
       (λ n ts h. map_yields (λ g us go gs vs gg j. go gs vs (gg j)) (unit_sound.a_group_sound ns n (read.bodies ns n) (bodies_sound ns n) ts)) n (λ ts h. a_group_closed ts) ts
 
 at_room : (ns : Names) (n : ℕ) → Inner ns n → Inner ns (suc n)
@@ -363,7 +364,7 @@ all_inner ns zero = record { stmt = no_stmt_closed ns; one = λ i h. cc; items =
 all_inner ns (suc n) = at_room ns n (all_inner ns n)
 
 good_stmt : (ns : Names) → Good (λ n. read.stmt_at ns n) (Stmt' ns)
-good_stmt ns = record { fine = λ n. loosen (fine.stmt_fine ns n (read.bodies ns n) (bodies_fine ns n)); less = stmt_less ns; sound = unit_sound.stmt_yields ns }
+good_stmt ns = record { fine = λ n. loosen (fine.stmt_fine ns n (read.bodies ns n) (bodies_fine ns n)); less = wider _ (stmt_at_near ns); sound = unit_sound.stmt_yields ns }
 
 -- in the braces of a function
 outer_item_closed : (ns : Names) (n : ℕ) (ts : List Token) → Closed Any (Some' (Front (Outermost ns))) n ts (read.block_item ns n (read.bodies ns n) (read.stmt_at ns n) ts)
@@ -376,5 +377,5 @@ pub outermost_closed : (ns : Names) (n : ℕ) (ts : List Token) → Closed Any (
 unfolding read.outermost read.block_items
 outermost_closed ns n ts = closed_many (Outermost ns) (λ more us. Outermost.no_item) read.no_close (fine.close_ahead ns n (read.bodies ns n) (bodies_fine ns n)) (λ n. read.block_item ns n (read.bodies ns n) (read.stmt_at ns n))
     (λ n. fine.block_item_fine ns n (read.bodies ns n) (bodies_fine ns n) (read.stmt_at ns n) (fine.stmt_fine ns n (read.bodies ns n) (bodies_fine ns n)))
-    (λ n more h. room.block_item_room ns n more (read.bodies ns n) (read.bodies ns more) h (bodies_room ns n more h) (read.stmt_at ns n) (read.stmt_at ns more) (stmt_less ns n more h))
+    (wider (λ n. read.block_item ns n (read.bodies ns n) (read.stmt_at ns n)) (λ j n more e. near.block_item_near ns j n more (read.bodies ns n) (read.bodies ns more) e (bodies_near ns j n more e) (read.stmt_at ns n) (read.stmt_at ns more) (stmt_at_near ns j n more e)))
     (λ n ts h. unit_sound.outer_item_sound ns n (read.bodies ns n) (bodies_sound ns n) (read.stmt_at ns n) (unit_sound.stmt_yields ns n) ts) n (λ ts h. outer_item_closed ns n ts) ts

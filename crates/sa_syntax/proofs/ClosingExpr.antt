@@ -37,8 +37,9 @@ use Rattle.sa_syntax.specs.ReadExpr.{Inner, inside}
 use Rattle.sa_syntax.proofs.ReadingLemmas.{Yields, if_yields, Marked, Opened, IsWord, IsVariable, Keyed, name_at_is, key_at_is}
 use Rattle.sa_syntax.proofs.ExprSound as sound
 use Rattle.sa_syntax.proofs.ExprSound.{inside_sound}
-use Rattle.sa_syntax.proofs.ExprRoom as room
-use Rattle.sa_syntax.proofs.ExprRoom.{inside_room}
+use Rattle.sa_syntax.proofs.NearLemmas.{wider}
+use Rattle.sa_syntax.proofs.NearExpr as near
+use Rattle.sa_syntax.proofs.NearExpr.{inside_near}
 use Rattle.sa_syntax.proofs.RoomLemmas.{Less}
 use Rattle.sa_syntax.proofs.DeepLemmas.{loosen, sees_ahead, fine_if, fine_refuse}
 use Rattle.sa_syntax.proofs.DeepExpr as fine
@@ -108,16 +109,16 @@ pub zero-whole : (ns : Names) (n : ℕ) (rest : List Token) → Whole ns n (noug
 zero-whole ns n rest = Whole.binary (zero-ranked ns n loosest rest)
 
 pub good_whole : (ns : Names) → Good (λ n. read.whole ns n (inside ns n)) (Whole ns)
-good_whole ns = record { fine = λ n. fine.whole_fine ns n (inside ns n) (inside_fine ns n); less = room.whole_less ns; sound = sound.whole_yields ns }
+good_whole ns = record { fine = λ n. fine.whole_fine ns n (inside ns n) (inside_fine ns n); less = wider _ (near.whole_at ns); sound = sound.whole_yields ns }
 
 pub good_ranked : (ns : Names) (l : ℕ) → Good (λ n. read.ranked ns n (inside ns n) l) (λ n ts a us. Ranked ns n l ts a us)
-good_ranked ns l = record { fine = λ n. fine.ranked_fine ns n (inside ns n) (inside_fine ns n) l; less = λ n more h. room.ranked_room ns n more (inside ns n) (inside ns more) h (inside_room ns n more h) l; sound = λ n. sound.ranked_yields ns n l }
+good_ranked ns l = record { fine = λ n. fine.ranked_fine ns n (inside ns n) (inside_fine ns n) l; less = wider (λ n. read.ranked ns n (inside ns n) l) (λ j n more e. near.ranked_near ns j n more (inside ns n) (inside ns more) e (inside_near ns j n more e) l); sound = λ n. sound.ranked_yields ns n l }
 
 pub good_type : (ns : Names) → Good (λ n. read.specifiers ns n (inside ns n)) (Specifiers' ns)
-good_type ns = record { fine = λ n. fine.specifiers_fine ns n (inside ns n) (inside_fine ns n); less = room.specifiers_less ns; sound = sound.specifiers_yields ns }
+good_type ns = record { fine = λ n. fine.specifiers_fine ns n (inside ns n) (inside_fine ns n); less = wider _ (near.specifiers_at ns); sound = sound.specifiers_yields ns }
 
 pub good_declr : (ns : Names) → Good (λ n. read.declr ns n (inside ns n)) (Declr' ns)
-good_declr ns = record { fine = λ n. loosen (fine.declr_fine ns n (inside ns n) (inside_fine ns n)); less = room.declr_less ns; sound = sound.declr_yields ns }
+good_declr ns = record { fine = λ n. loosen (fine.declr_fine ns n (inside ns n) (inside_fine ns n)); less = wider _ (near.declr_at ns); sound = sound.declr_yields ns }
 
 -- the readers one deeper
 pub record Deeper (ns : Names) (i : ℕ) : Type 0 where
@@ -151,7 +152,7 @@ module _ (ns : Names) (n : ℕ) (deeper : (i : ℕ) → n ≡ suc i → Deeper n
   steps_closed : (ts : List Token) → Closed Opener (Some' (Steps ns)) n ts (read.steps ns n (inside ns n) ts)
   unfolding read.steps
   steps_closed ts = closed_many (Steps ns) (λ more us. Steps.no_step) read.sees_step fine.step_ahead (λ n. read.a_step ns n (inside ns n))
-      (λ n. fine.a_step_fine ns n (inside ns n) (inside_fine ns n)) (λ n more h. room.a_step_room ns n more (inside ns n) (inside ns more) h (inside_room ns n more h))
+      (λ n. fine.a_step_fine ns n (inside ns n) (inside_fine ns n)) (wider (λ n. read.a_step ns n (inside ns n)) (λ j n more e. near.a_step_near ns j n more (inside ns n) (inside ns more) e (inside_near ns j n more e)))
       (λ n ts h. sound.a_step_sound ns n (inside ns n) (inside_sound ns n) ts) n (λ ts h. a_step_closed ts) ts
 
 name_place : (ns : Names) (more : ℕ) (ss : List Token) (x : Named) (us : List Token) (xs : List Step) (vs : List Token) → IsVariable ns ss x us → Steps ns more us xs vs → Place' ns more ss (tree.place (at.Name x) xs) vs
@@ -234,7 +235,7 @@ front_field : (ns : Names) (more : ℕ) (ss : List Token) (t : Specifiers) (us :
 front_field ns more ss t us _ rest i (sound.SomeDeclrs.some_declrs j) fs xs go = Fields.field i j go
 
 good_field : (ns : Names) → Good (λ n. read.field ns n (inside ns n)) (Front (Fields ns))
-good_field ns = record { fine = λ n. loosen (fine.field_fine ns n (inside ns n) (inside_fine ns n)); less = λ n more h. room.field_room ns n more (inside ns n) (inside ns more) h (inside_room ns n more h); sound = λ n. sound.field_sound ns n (inside ns n) (inside_sound ns n) }
+good_field ns = record { fine = λ n. loosen (fine.field_fine ns n (inside ns n) (inside_fine ns n)); less = wider (λ n. read.field ns n (inside ns n)) (λ j n more e. near.field_near ns j n more (inside ns n) (inside ns more) e (inside_near ns j n more e)); sound = λ n. sound.field_sound ns n (inside ns n) (inside_sound ns n) }
 
 good_qualifiers : Good (λ _. many read.sees_qualifier read.qualifier) (λ _ ts qs us. Qualifiers ts qs us)
 good_qualifiers = good_leaf fine.qualifiers_fine sound.qualifiers_sound
@@ -304,7 +305,7 @@ module _ (ns : Names) (n : ℕ) (deeper : (i : ℕ) → n ≡ suc i → Deeper n
 
   bounds_closed : (ts : List Token) → Closed Opener (Some' (Bounds ns)) n ts (many (sees m.OpenBracket) (read.a_bound ns n (inside ns n)) ts)
   bounds_closed ts = closed_many (Bounds ns) (λ more us. Bounds.no_bound) (sees m.OpenBracket) (sees_ahead m.OpenBracket) (λ n. read.a_bound ns n (inside ns n))
-      (λ n. fine.a_bound_fine ns n (inside ns n) (inside_fine ns n)) (λ n more h. room.a_bound_room ns n more (inside ns n) (inside ns more) h (inside_room ns n more h))
+      (λ n. fine.a_bound_fine ns n (inside ns n) (inside_fine ns n)) (wider (λ n. read.a_bound ns n (inside ns n)) (λ j n more e. near.a_bound_near ns j n more (inside ns n) (inside ns more) e (inside_near ns j n more e)))
       (λ n ts h. sound.a_bound_sound ns n (inside ns n) (inside_sound ns n) ts) n (λ ts h. a_bound_closed ts) ts
 
   pub declr_closed : (ts : List Token) → Closed Opener (Some' (Declr' ns)) n ts (read.declr ns n (inside ns n) ts)
@@ -317,7 +318,7 @@ module _ (ns : Names) (n : ℕ) (deeper : (i : ℕ) → n ≡ suc i → Deeper n
 
   more_declrs_closed : (ts : List Token) → Closed Opener (Some' (MoreDeclrs ns)) n ts (many (sees m.Comma) (read.next_declr ns n (inside ns n)) ts)
   more_declrs_closed ts = closed_many (MoreDeclrs ns) (λ more us ss d first. Declrs.last_declr first) (sees m.Comma) (sees_ahead m.Comma) (λ n. read.next_declr ns n (inside ns n))
-      (λ n. fine.next_declr_fine ns n (inside ns n) (inside_fine ns n)) (λ n more h. room.next_declr_room ns n more (inside ns n) (inside ns more) h (inside_room ns n more h))
+      (λ n. fine.next_declr_fine ns n (inside ns n) (inside_fine ns n)) (wider (λ n. read.next_declr ns n (inside ns n)) (λ j n more e. near.next_declr_near ns j n more (inside ns n) (inside ns more) e (inside_near ns j n more e)))
       (λ n ts h. sound.next_declr_sound ns n (inside ns n) (inside_sound ns n) ts) n (λ ts h. next_declr_closed ts) ts
 
   pub declrs_closed : (ts : List Token) → Closed Opener (Some' (λ more. sound.SomeDeclrs ns more)) n ts (read.declrs ns n (inside ns n) ts)
@@ -471,7 +472,7 @@ module _ (ns : Names) (n : ℕ) (deeper : (i : ℕ) → n ≡ suc i → Deeper n
       → Closed Opener (Some' (λ more ss xs us. Links ns more l ss xs us)) n ts (many (read.sees_operator (suc l)) (read.a_link ns n (inside ns n) (read.ranked ns n (inside ns n) l)) ts)
   links_closed l one ts = closed_many (λ more ss xs us. Links ns more l ss xs us) (λ more us. Links.no_link) (read.sees_operator (suc l)) (fine.operator_ahead (suc l)) (λ n. read.a_link ns n (inside ns n) (read.ranked ns n (inside ns n) l))
       (λ n. fine.a_link_fine ns n (inside ns n) (inside_fine ns n) (read.ranked ns n (inside ns n) l) ((good_ranked ns l).fine n))
-      (λ n more h. room.a_link_room ns n more (inside ns n) (inside ns more) h (inside_room ns n more h) (read.ranked ns n (inside ns n) l) (read.ranked ns more (inside ns more) l) ((good_ranked ns l).less n more h))
+      (wider (λ n. read.a_link ns n (inside ns n) (read.ranked ns n (inside ns n) l)) (λ j n more e. near.a_link_near ns j n more (inside ns n) (inside ns more) e (inside_near ns j n more e) (read.ranked ns n (inside ns n) l) (read.ranked ns more (inside ns more) l) (near.ranked_near ns j n more (inside ns n) (inside ns more) e (inside_near ns j n more e) l)))
       (λ n ts h. sound.a_link_sound ns n (inside ns n) (inside_sound ns n) l (read.ranked ns n (inside ns n) l) ((good_ranked ns l).sound n) ts h) n (a_link_closed l one) ts
 
   pub ranked_closed : (l : ℕ) (ts : List Token) → Closed Opener (Some' (λ more ts a us. Ranked ns more l ts a us)) n ts (read.ranked ns n (inside ns n) l ts)

@@ -40,11 +40,12 @@ use Rattle.sa_syntax.proofs.ReadingLemmas.{map_yields, Marked, IsVariable, Keyed
 use Rattle.sa_syntax.proofs.ExprSound.{Within}
 use Rattle.sa_syntax.proofs.StmtSound as sound
 use Rattle.sa_syntax.proofs.StmtSound.{InBrackets}
-use Rattle.sa_syntax.proofs.StmtRoom as room
+use Rattle.sa_syntax.proofs.NearLemmas.{wider}
+use Rattle.sa_syntax.proofs.NearStmt as near
 use Rattle.sa_syntax.proofs.DeepLemmas.{loosen}
 use Rattle.sa_syntax.proofs.DeepStmt as fine
 use Rattle.sa_syntax.proofs.ExprSound as expr_sound
-use Rattle.sa_syntax.proofs.ExprRoom as expr_room
+use Rattle.sa_syntax.proofs.NearExpr as near_expr
 use Rattle.sa_syntax.proofs.ClosingLemmas.{Closed, Calm, Good, Any, Some', calm_then, calm_if, calm_takes, calm_ends, closed_calm, closed_map, closed_if, closed_any, closed_reader, closed_then, closed_next, closed_last, closed_tail, closed_opens, opens_from, closed_many, list_closed, calm_expect, calm_variable, good_expect, good_variable, stepped}
 use Rattle.sa_syntax.proofs.ClosingExpr as closing
 use Rattle.sa_syntax.proofs.ClosingExpr.{spot, close, nought, fresh, fresh-is, zero-whole, letter, letter_declr, int, int_type, int-type, good_whole, good_type, good_declr, all_closed}
@@ -66,11 +67,11 @@ module _ (ns : Names) (n : ℕ) where
   declr_closed ts = closed_any (closing.declr_closed ns n (λ i h. all_closed ns i) ts)
 
 pub good_place : (ns : Names) → Good (λ n. read.place ns n) (Place' ns)
-good_place ns = record { fine = λ n. loosen (fine.place_fine ns n); less = expr_room.place_less ns; sound = expr_sound.place_yields ns }
+good_place ns = record { fine = λ n. loosen (fine.place_fine ns n); less = wider _ (near_expr.place_at ns); sound = expr_sound.place_yields ns }
 
 -- ---- initialisers
 good_init : (ns : Names) → Good (λ n. read.init_at ns n) (Init' ns)
-good_init ns = record { fine = fine.init_at_fine ns; less = room.init_at_room ns; sound = sound.init_at_sound ns }
+good_init ns = record { fine = fine.init_at_fine ns; less = wider _ (near.init_at_near ns); sound = sound.init_at_sound ns }
 
 next_inits : (ns : Names) (more : ℕ) (ss : List Token) (i : Init) (us : List Token) (p : Pos) (vs : List Token) (is : List Init) (ws : List Token) → Init' ns more ss i us → Marked m.Comma us p vs → Inits ns more vs is ws → Inits ns more ss (i ∷ is) ws
 next_inits ns more ss i _ p vs is ws j Marked.marked go = Inits.next_init j go
@@ -120,7 +121,7 @@ value_reference : (ns : Names) (more : ℕ) (ss : List Token) (p : Pos) (us : Li
 value_reference ns more _ p us x rest Marked.marked i = ArgValue'.reference i
 
 good_arg : (ns : Names) → Good (λ n. read.arg_value ns n) (ArgValue' ns)
-good_arg ns = record { fine = fine.arg_value_fine ns; less = room.arg_value_room ns; sound = sound.arg_value_sound ns }
+good_arg ns = record { fine = fine.arg_value_fine ns; less = wider _ (near.arg_value_near ns); sound = sound.arg_value_sound ns }
 
 arg_value_closed : (ns : Names) (n : ℕ) (ts : List Token) → Closed Any (Some' (ArgValue' ns)) n ts (read.arg_value ns n ts)
 unfolding read.arg_value
@@ -152,7 +153,7 @@ call_some : (ns : Names) (more : ℕ) (ss : List Token) (x : Named) (p : Pos) (u
 call_some ns more _ _ p us xs rest (IsVariable.is_variable h) i = Call'.args h i
 
 pub good_call : (ns : Names) → Good (λ n. read.call ns n) (Call' ns)
-good_call ns = record { fine = λ n. loosen (fine.call_fine ns n); less = room.call_room ns; sound = sound.call_sound ns }
+good_call ns = record { fine = λ n. loosen (fine.call_fine ns n); less = wider _ (near.call_near ns); sound = sound.call_sound ns }
 
 pub call_closed : (ns : Names) (n : ℕ) (ts : List Token) → Closed Any (Some' (Call' ns)) n ts (read.call ns n ts)
 unfolding read.call
@@ -224,14 +225,14 @@ local_start_closed ns n x us = closed_next (good_expect m.Equal) n us (calm_expe
     (λ h. closed_last n vs [] (λ more ws i rest f us k ss d. (tree.local_declr x (begins.Init p i), local_init ns more ss x us p ws i rest d k f)) (init_at_closed ns n vs) (λ i ws. Calm.got)))
 
 good_local_declr : (ns : Names) → Good (λ n. read.local_declr ns n) (LocalDeclr' ns)
-good_local_declr ns = record { fine = λ n. loosen (fine.local_declr_fine ns n); less = room.local_declr_room ns; sound = sound.local_declr_sound ns }
+good_local_declr ns = record { fine = λ n. loosen (fine.local_declr_fine ns n); less = wider _ (near.local_declr_near ns); sound = sound.local_declr_sound ns }
 
 local_declr_closed : (ns : Names) (n : ℕ) (ts : List Token) → Closed Any (Some' (LocalDeclr' ns)) n ts (read.local_declr ns n ts)
 unfolding read.local_declr
 local_declr_closed ns n ts = closed_then (good_declr ns) n ts [] (λ more ss x rest i. (tree.local_declr x begins.Nothing, LocalDeclr'.plain i)) (declr_closed ns n ts) (λ x us. closed_if (sees m.Equal us) (λ h. local_start_closed ns n x us) (λ h. Closed.got))
 
 pub good_local : (ns : Names) → Good (λ n. read.local ns n) (Local' ns)
-good_local ns = record { fine = λ n. loosen (fine.local_fine ns n); less = room.local_room ns; sound = sound.local_sound ns }
+good_local ns = record { fine = λ n. loosen (fine.local_fine ns n); less = wider _ (near.local_near ns); sound = sound.local_sound ns }
 
 pub local_closed : (ns : Names) (n : ℕ) (ts : List Token) → Closed Any (Some' (Local' ns)) n ts (read.local ns n ts)
 unfolding read.local
@@ -280,7 +281,7 @@ condition_closed ns n ts = closed_opens (λ n p. within (read.expr ns) n >>= (λ
     (λ i h p us. closed_last i us (close m.CloseParen ∷ []) (λ more vs a rest w. (a, InBrackets.in_brackets w)) (expr_closed ns i us) (λ a vs. calm_ends m.CloseParen a vs))
 
 pub good_condition : (ns : Names) → Good (λ n. read.condition ns n) (InBrackets ns)
-good_condition ns = record { fine = λ n. loosen (fine.condition_fine ns n); less = room.condition_room ns; sound = sound.condition_sound ns }
+good_condition ns = record { fine = λ n. loosen (fine.condition_fine ns n); less = wider _ (near.condition_near ns); sound = sound.condition_sound ns }
 
 declares_first : (ns : Names) (more : ℕ) (ss : List Token) (t : Specifiers) (us : List Token) (x : Declr) (vs : List Token) (p : Pos) (ws : List Token) (a : Expr) (rest : List Token) → Specifiers' ns more ss t us → Declr' ns more us x vs → Marked m.Equal vs p ws → Whole ns more ws a rest
     → First' ns more ss (first.Declares t x p a) rest
@@ -304,13 +305,13 @@ unfolding read.simple_before
 simple_before_closed ns mk n ts = closed_if (sees mk ts) (λ h. Closed.got) (λ h. closed_last n ts [] (λ more ss a rest i. (Some a, Next'.simply i)) (simple_closed ns n ts) (λ a us. Calm.got))
 
 pub good_first : (ns : Names) → Good (λ n. read.first_of ns n) (First' ns)
-good_first ns = record { fine = fine.first_of_fine ns; less = room.first_of_room ns; sound = sound.first_of_sound ns }
+good_first ns = record { fine = fine.first_of_fine ns; less = wider _ (near.first_of_near ns); sound = sound.first_of_sound ns }
 
 pub good_expr_before : (ns : Names) (mk : Punct) → Good (λ n. read.expr_before ns mk n) (Condition' ns)
-good_expr_before ns mk = record { fine = fine.expr_before_fine ns mk; less = room.expr_before_room ns mk; sound = λ n. sound.expr_before_sound ns n mk }
+good_expr_before ns mk = record { fine = fine.expr_before_fine ns mk; less = wider _ (near.expr_before_near ns mk); sound = λ n. sound.expr_before_sound ns n mk }
 
 pub good_simple_before : (ns : Names) (mk : Punct) → Good (λ n. read.simple_before ns mk n) (Next' ns)
-good_simple_before ns mk = record { fine = fine.simple_before_fine ns mk; less = room.simple_before_room ns mk; sound = λ n. sound.simple_before_sound ns n mk }
+good_simple_before ns mk = record { fine = fine.simple_before_fine ns mk; less = wider _ (near.simple_before_near ns mk); sound = λ n. sound.simple_before_sound ns n mk }
 
 case_closed : (ns : Names) (n : ℕ) (ts : List Token) → Keyed k.Case ts → Closed Any (Some' (Label' ns)) n ts (read.case ns n ts)
 unfolding read.case
@@ -330,13 +331,13 @@ unfolding read.a_label
 a_label_closed ns n ts = label_by_closed ns n (key_at ts) ts refl
 
 pub good_label : (ns : Names) → Good (λ n. read.a_label ns n) (Label' ns)
-good_label ns = record { fine = λ n. loosen (fine.a_label_fine ns n); less = room.a_label_room ns; sound = sound.a_label_sound ns }
+good_label ns = record { fine = λ n. loosen (fine.a_label_fine ns n); less = wider _ (near.a_label_near ns); sound = sound.a_label_sound ns }
 
 -- more labels, where no other follows
 abbrev pub MoreLabels : Names → ℕ → List Token → List Label → List Token → Type 0
 MoreLabels ns more ts ls us = begins_with_label us ≡ false → (ss : List Token) (l : Label) → Label' ns more ss l ts → Labels ns more ss (l ∷ ls) us
 
 pub more_labels_closed : (ns : Names) (n : ℕ) (ts : List Token) → Closed Any (Some' (MoreLabels ns)) n ts (many begins_with_label (read.a_label ns n) ts)
-more_labels_closed ns n ts = closed_many (MoreLabels ns) (λ more us h ss l i. Labels.last_label i h) begins_with_label fine.label_ahead (λ n. read.a_label ns n) (fine.a_label_fine ns) (room.a_label_room ns)
+more_labels_closed ns n ts = closed_many (MoreLabels ns) (λ more us h ss l i. Labels.last_label i h) begins_with_label fine.label_ahead (λ n. read.a_label ns n) (fine.a_label_fine ns) (wider _ (near.a_label_near ns))
     (λ n ts h. map_yields (λ x us i ls vs go g ss l j. Labels.next_label j (go g ts x i)) (sound.a_label_sound ns n ts)) n
     (λ ts h. closed_map (λ more us vs x. (x.0, λ ls ws go g ss l j. Labels.next_label j (go g us (x.0) (x.1)))) (a_label_closed ns n ts)) ts

@@ -23,14 +23,15 @@ use Rattle.sa_syntax.specs.Words.{Names, mark, key, word, named, is_void_alone}
 use Rattle.sa_syntax.specs.Expressions.{Specifiers', Declr', Bounds}
 use Rattle.sa_syntax.specs.Statements.{all_named, InitDeclr', InitDeclrs, Param', ParamList, Params', Starred, Nameable, Outermost, Units, Tree}
 use Rattle.sa_syntax.specs.Reading.{Parser, Read, Got, Deep, and_then, sees, expect, opens_any, opens, name_at, key_at, turns, ◌>>=◌}
-use Rattle.sa_syntax.specs.Refusals.{GoesTooDeep}
+use Rattle.sa_syntax.specs.Refusals.{Begins}
 use Rattle.sa_syntax.specs.ReadExpr.{is_some}
 use Rattle.sa_syntax.specs.ReadStmt as read
 use Rattle.sa_syntax.specs.ReadStmt.{takes, within, list}
 use Rattle.sa_syntax.specs.declared.stmt.BlockItem.{BlockItem}
 use Rattle.sa_syntax.proofs.ReadingLemmas.{map_yields, Marked, Opened, opens_yields, IsWord, Keyed, key_at_is}
 use Rattle.sa_syntax.proofs.RoomLemmas.{less_opens}
-use Rattle.sa_syntax.proofs.StmtRoom as room
+use Rattle.sa_syntax.proofs.NearLemmas.{wider}
+use Rattle.sa_syntax.proofs.NearStmt as near
 use Rattle.sa_syntax.proofs.StmtSound as stmt_sound
 use Rattle.sa_syntax.proofs.UnitSound as sound
 use Rattle.sa_syntax.proofs.DeepLemmas.{loosen, fine_opens}
@@ -38,7 +39,7 @@ use Rattle.sa_syntax.proofs.DeepStmt as stmt_fine
 use Rattle.sa_syntax.proofs.DeepUnit as fine
 use Rattle.sa_syntax.proofs.ClosingLemmas.{Closed, Calm, Good, Any, Some', calm_then, calm_if, calm_ends, closed_calm, closed_map, closed_if, closed_then, closed_next, closed_last, closed_tail, closed_opens, list_closed, calm_expect, calm_any_name, good_any_name, stepped}
 use Rattle.sa_syntax.proofs.ClosingExpr as closing
-use Rattle.sa_syntax.proofs.ClosingExpr.{spot, close, letter, letter_declr, int_type, good_type, all_closed, Opener, plain}
+use Rattle.sa_syntax.proofs.ClosingExpr.{spot, close, letter, letter_declr, good_type, all_closed, Opener, plain}
 use Rattle.sa_syntax.proofs.ClosingStmt.{specifiers_closed, init_declr_closed}
 use Rattle.sa_syntax.proofs.ClosingBodies.{outermost_closed}
 
@@ -52,7 +53,7 @@ param_closed ns n ts = closed_last n ts [] (λ more ss t rest i. (tree.param t N
     (λ t us. calm_then (calm_star us) (λ star vs. calm_if (is_some (name_at vs)) (calm_then (calm_any_name vs) (λ x ws. Calm.got)) Calm.got))
 
 good_param : (ns : Names) → Good (λ n. read.param ns n) (Param' ns)
-good_param ns = record { fine = fine.param_fine ns; less = room.param_room ns; sound = sound.param_sound ns }
+good_param ns = record { fine = fine.param_fine ns; less = wider _ (near.param_near ns); sound = sound.param_sound ns }
 
 void-word : (w : Word) (p : Pos) (r s : List Token) → plain w ≡ false → let t : Token = record { word = w; pos = p } in is_void_alone (t ∷ r) ≡ is_void_alone (t ∷ s)
 unfolding is_void_alone
@@ -79,7 +80,7 @@ params_closed ns n ts = closed_if (sees m.CloseParen ts) (λ h. Closed.got) (λ 
     (λ g. in_list ns n ts g (list_closed (Param' ns) (ParamList ns) m.CloseParen (λ n. read.param ns n) (good_param ns) (λ more ts x p us i. ParamList.last_param i) (λ more ts x p us xs vs i go. ParamList.next_param i go) n (param_closed ns n) ts) (λ ps us. Calm.got)))
 
 good_params : (ns : Names) → Good (λ n. read.params ns n) (Params' ns)
-good_params ns = record { fine = fine.params_fine_at ns; less = room.params_room ns; sound = sound.params_sound ns }
+good_params ns = record { fine = fine.params_fine_at ns; less = wider _ (near.params_near ns); sound = sound.params_sound ns }
 
 -- ---- items
 abbrev InFront : Names → ℕ → List Token → Item → List Token → Type 0
@@ -127,7 +128,7 @@ function_closed ns n t us = closed_next good_any_name n us (calm_any_name us) (�
     (λ i h p ws. closed_then (good_params ns) i ws (close m.Semicolon ∷ []) (λ more xs ps rest j us w ss s. proto_some ns more ss t us x p xs ps rest s w j) (params_closed ns i ws) (λ ps xs. ends_closed ns i t x p ps xs)))
 
 good_init_declr : (ns : Names) → Good (λ n. read.init_declr ns n) (InitDeclr' ns)
-good_init_declr ns = record { fine = λ n. loosen (stmt_fine.init_declr_fine ns n); less = room.init_declr_room ns; sound = stmt_sound.init_declr_sound ns }
+good_init_declr ns = record { fine = λ n. loosen (stmt_fine.init_declr_fine ns n); less = wider _ (near.init_declr_near ns); sound = stmt_sound.init_declr_sound ns }
 
 global_closed : (ns : Names) (n : ℕ) (t : Specifiers) (us : List Token) → Closed Any (Typed ns t) n us (read.global ns n t us)
 unfolding read.global
@@ -161,7 +162,7 @@ unfolding read.an_item
 an_item_closed ns n ts = item_by_closed ns n (key_at ts) ts refl
 
 good_item : (ns : Names) → Good (λ n. read.an_item ns n) (InFront ns)
-good_item ns = record { fine = λ n. loosen (fine.an_item_fine ns n); less = room.an_item_room ns; sound = sound.an_item_sound ns }
+good_item ns = record { fine = λ n. loosen (fine.an_item_fine ns n); less = wider _ (near.an_item_near ns); sound = sound.an_item_sound ns }
 
 -- ---- sources
 -- a whole source, where nothing follows
@@ -184,16 +185,24 @@ append_none : (xs : List Token) → xs ++ [] ≡ xs
 append_none [] = refl
 append_none (x ∷ xs) = ap (λ z. x ∷ z) (append_none xs)
 
-too_deep : (n : ℕ) (ts us : List Token) (x : Read Source) → read.source n ts ≡ x → x ≡ Deep us → Closed Any (Whole []) n ts x → (d : GoesTooDeep n ts) × (us ≡ d.token ∷ d.after)
-too_deep n ts us _ f e Closed.got = cc
-too_deep n ts us _ f e Closed.stuck = cc
-too_deep n ts us _ f e (Closed.deep {t} {r} b tail more same h o w) =
+-- some text begins with the tokens up to the one that is told
+pub record Reached (ts us : List Token) : Type 0 where
+  pub before : List Token
+  pub token : Token
+  pub behind : List Token
+  pub is : ts ≡ before ++ token ∷ behind
+  pub told : us ≡ token ∷ behind
+  pub begins : Begins (before ++ token ∷ [])
+
+too_deep : (n : ℕ) (ts us : List Token) (x : Read Source) → x ≡ Deep us → Closed Any (Whole []) n ts x → Reached ts us
+too_deep n ts us _ e Closed.got = cc
+too_deep n ts us _ e Closed.stuck = cc
+too_deep n ts us _ e (Closed.deep {t} {r} b tail more same h o w) =
     let us_is : us ≡ t ∷ r = cc in
-    let at : read.source n (b ++ t ∷ r) ≡ Deep (t ∷ r) = subst (λ z. read.source n z ≡ Deep (t ∷ r)) same f in
     let v = w [] refl in
     let begins : Tree more (b ++ t ∷ tail) (tree.source (v.0)) = subst (λ z. Tree more (b ++ t ∷ z) (tree.source (v.0))) (append_none tail) (v.1) in
     let whole : Tree more ((b ++ t ∷ []) ++ tail) (tree.source (v.0)) = subst (λ z. Tree more z (tree.source (v.0))) (sym (append_assoc b (t ∷ []) tail)) begins in
-    (record { before = b; token = t; after = r; is = same; begins = (more, tail, tree.source (v.0), whole); none = λ tail u. fine.none_within n b t r tail u at }, us_is)
+    record { before = b; token = t; behind = r; is = same; told = us_is; begins = (more, tail, tree.source (v.0), whole) }
 
-pub told_depth : (n : ℕ) (ts us : List Token) → read.source n ts ≡ Deep us → (d : GoesTooDeep n ts) × (us ≡ d.token ∷ d.after)
-told_depth n ts us e = too_deep n ts us (read.source n ts) refl e (source_closed n ts)
+pub reached : (n : ℕ) (ts us : List Token) → read.source n ts ≡ Deep us → Reached ts us
+reached n ts us e = too_deep n ts us (read.source n ts) e (source_closed n ts)

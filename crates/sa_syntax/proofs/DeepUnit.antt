@@ -1,5 +1,5 @@
--- Functions and sources are read the same up to a token, whatever follows it; what a refusal for depth says.
-use Rattle.std.proofs.Common.{◌≡◌, ℕ, zero, suc, ◌<◌, List, [], ◌∷◌, ◌++◌, Bool, true, false, cond, refl, ap, subst, arith, length, append_assoc, ◌⊎◌, inl, inr, Option, Some, None}
+-- Functions and sources are read the same up to a token, whatever follows it.
+use Rattle.std.proofs.Common.{◌≡◌, ℕ, zero, suc, ◌<◌, List, [], ◌∷◌, ◌++◌, Bool, true, false, cond, refl, ap, arith, length, ◌⊎◌, inl, inr, Option, Some, None}
 use Rattle.sa_base.specs.declared.pos.Pos.{Pos}
 use Rattle.sa_tokens.specs.declared.keyword.Keyword.{Keyword}
 use Rattle.sa_tokens.specs.declared.keyword.Keyword.TheVariants as k
@@ -14,11 +14,10 @@ use Rattle.sa_syntax.specs.declared.unit.Params.{Params}
 use Rattle.sa_syntax.specs.declared.unit.Params.TheVariants as given
 use Rattle.sa_syntax.specs.declared.unit.Item.{Item}
 use Rattle.sa_syntax.specs.declared.unit.Item.TheVariants as top
-use Rattle.sa_syntax.specs.declared.unit.Unit.{Unit as Source}
 use Rattle.sa_syntax.specs.Trees as tree
 use Rattle.sa_syntax.specs.Words.{Names, key, word, is_void_alone}
-use Rattle.sa_syntax.specs.Statements.{all_named, Tree}
-use Rattle.sa_syntax.specs.Reading.{Parser, Read, Got, Stuck, Deep, sees, after, expect, opens, any_name, name_at, key_at, mark_at, turns, pure, ◌>>=◌}
+use Rattle.sa_syntax.specs.Statements.{all_named}
+use Rattle.sa_syntax.specs.Reading.{Parser, Got, Stuck, sees, after, expect, opens, any_name, name_at, key_at, mark_at, turns, pure, ◌>>=◌}
 use Rattle.sa_syntax.specs.ReadExpr.{is_some, inside}
 use Rattle.sa_syntax.specs.ReadStmt as read
 use Rattle.sa_syntax.specs.ReadStmt.{takes, within, list}
@@ -27,7 +26,6 @@ use Rattle.sa_syntax.proofs.DeepExpr as expr_fine
 use Rattle.sa_syntax.proofs.DeepExpr.{inside_fine, place_ahead}
 use Rattle.sa_syntax.proofs.DeepStmt as fine
 use Rattle.sa_syntax.proofs.DeepStmt.{IsFine}
-use Rattle.sa_syntax.proofs.UnitComplete.{source-complete}
 
 -- ---- where no statement may be open
 no_stmt_shrinks : (ns : Names) (ts : List Token) → Shrinks 1 ts (read.no_stmt ns ts)
@@ -196,19 +194,3 @@ items_fine n = record { shrinks = λ ts. shrink_items n (turns ts) [] [] ts; loc
 pub source_fine : (n : ℕ) → Fine 0 (read.source n)
 unfolding read.source
 source_fine n = fine_then (items_fine n) (λ is. fine_pure (tree.source is))
-
--- ---- what a refusal for depth says
-no_tree : {A : Type 0} {t : Token} {r s : List Token} {a : A} (x y : Read A) → Local t r s x y → x ≡ Deep (t ∷ r) → y ≡ Got a [] → ⊥
-no_tree _ _ (Local.got b) e f = cc
-no_tree _ _ (Local.deep b) e f = cc
-no_tree {t = t} {r = r} _ _ (Local.gone h) e f = cc
-no_tree {t = t} {r = r} (Deep us) _ (Local.gone_deep h) e f = let g : us ≡ t ∷ r = cc in let l : length us ≡ length (t ∷ r) = ap length g in absurd (omega (arith, h, l))
-no_tree _ _ (Local.stuck b) e f = cc
-no_tree _ _ (Local.gone_stuck h) e f = cc
-
--- the tokens up to the one that is too deep begin no text in which no more is open
-pub none_within : (n : ℕ) (before : List Token) (t : Token) (behind tail : List Token) (u : Source) → read.source n (before ++ t ∷ behind) ≡ Deep (t ∷ behind) → Tree n ((before ++ t ∷ []) ++ tail) u → ⊥
-none_within n before t behind tail u e h =
-    let same : (before ++ t ∷ []) ++ tail ≡ before ++ t ∷ tail = append_assoc before (t ∷ []) tail in
-    no_tree (read.source n (before ++ t ∷ behind)) (read.source n (before ++ t ∷ tail)) ((source_fine n).local before t behind tail) e
-    (source-complete n (before ++ t ∷ tail) u (subst (λ z. Tree n z u) same h))

@@ -31,14 +31,14 @@ use Rattle.sa_syntax.specs.Words.{Names, mark, key, word, literal, named, is_typ
 use Rattle.sa_syntax.specs.Expressions.{Whole, Ranked, Links, Unary, Place', Steps, Specifiers', Qualifiers, ScalarWords, Base', Struct', Fields, Declrs, Declr', Bounds}
 use Rattle.sa_syntax.specs.Reading.{Got, Stuck, same_mark, sees, opens, after, expect, any_name, variable, name_at, key_at, mark_at, taken, many, pure, ◌>>=◌}
 use Rattle.sa_syntax.specs.ReadExpr as read
-use Rattle.sa_syntax.specs.ReadExpr.{Inner, inside}
+use Rattle.sa_syntax.specs.ReadExpr.{inside}
 use Rattle.sa_syntax.proofs.ReadingLemmas.{yielded}
 use Rattle.sa_syntax.proofs.ExprSound as sound
 use Rattle.sa_syntax.proofs.Shorter.{type-shorter}
 use Rattle.sa_syntax.proofs.DeepExpr as fine
 use Rattle.sa_syntax.proofs.DeepExpr.{inside_fine}
-use Rattle.sa_syntax.proofs.ClosingExpr.{spot, close, nought, letter, int, int_type, int-type, letter_declr, fresh, fresh-is, zero-whole, one-field, chained_ranked}
-use Rattle.sa_syntax.proofs.EndsLemmas.{Ends, Some', Front, done, halts, ends_if, ends_map, seq, seq_front, stepped, expect_then, expect_with, name_then, named_then, variable_then, keyed_then, opens_then, opens_any_then, restored, many_ends, placed_ends}
+use Rattle.sa_syntax.proofs.ClosingExpr.{spot, close, nought, letter, int, letter_declr, fresh, fresh-is, zero-whole, chained_ranked}
+use Rattle.sa_syntax.proofs.EndsLemmas.{Ends, Some', Front, done, halts, ends_if, ends_map, seq, seq_front, stepped, expect_then, expect_with, name_then, named_then, variable_then, keyed_then, opens_or, opens_seen, opens_any_then, restored, many_ends, placed_ends}
 
 abbrev pub zero_expr : Expr
 zero_expr = e.Number 0 false 0 false spot
@@ -54,8 +54,8 @@ module _ (ns : Names) (n : ℕ) (deeper : (i : ℕ) → n ≡ suc i → Deeper n
   -- ---- places
   index_ends : (ts : List Token) → Ends n (Front (Steps ns)) (Some' (Steps ns)) ts (read.index ns n (inside ns n) ts)
   unfolding read.index inside
-  index_ends ts = opens_then (λ n p. (inside ns n).whole >>= (λ a. expect m.CloseBracket >>= (λ q. pure (step.Index p a)))) n m.OpenBracket ts (nought ∷ close m.CloseBracket ∷ [])
-      (λ r z. (step.Index spot zero_expr ∷ [], Steps.index (zero-whole ns r (close m.CloseBracket ∷ z)) Steps.no_step))
+  index_ends ts = opens_or (λ n p. (inside ns n).whole >>= (λ a. expect m.CloseBracket >>= (λ q. pure (step.Index p a)))) n m.OpenBracket ts
+      (λ g. halts (close m.Dot) (word letter spot ∷ []) (refl, refl) (λ r z l. (step.Field spot (named letter spot) ∷ [], Steps.dot Steps.no_step)))
       (λ i h p us. seq ((deeper i h).whole us) (close m.CloseBracket ∷ []) (λ r ss z l s. (step.Index p (s.0) ∷ [], Steps.index (s.1) Steps.no_step)) (λ a vs.
       expect_then m.CloseBracket vs [] (λ r z l ss s. (step.Index p a ∷ [], Steps.index s Steps.no_step)) (λ q ws. done (λ r zs l f ss s xs ys t. Steps.index s t))))
 
@@ -94,9 +94,8 @@ module _ (ns : Names) (n : ℕ) (deeper : (i : ℕ) → n ≡ suc i → Deeper n
 module _ (ns : Names) (n : ℕ) (deeper : (i : ℕ) → n ≡ suc i → Deeper ns i) where
   through_ends : (ts : List Token) → Ends n (Place' ns) (Some' (Place' ns)) ts (read.through ns n (inside ns n) ts)
   unfolding read.through
-  through_ends ts = opens_then (λ n p. expect m.Star >>= (λ q. variable ns >>= (λ x. expect m.CloseParen >>= (λ o. read.steps ns n (inside ns n) >>= (λ ss. pure (tree.place (at.Through p q x) ss)))))) n m.OpenParen ts
-      (close m.Star ∷ word (fresh ns) spot ∷ close m.CloseParen ∷ [])
-      (λ r z. (tree.place (at.Through spot spot (named (fresh ns) spot)) [], Place'.through (fresh-is ns) Steps.no_step))
+  through_ends ts = opens_or (λ n p. expect m.Star >>= (λ q. variable ns >>= (λ x. expect m.CloseParen >>= (λ o. read.steps ns n (inside ns n) >>= (λ ss. pure (tree.place (at.Through p q x) ss)))))) n m.OpenParen ts
+      (λ g. halts (word (fresh ns) spot) [] (refl, refl) (λ r z l. (tree.place (at.Name (named (fresh ns) spot)) [], Place'.name (fresh-is ns) Steps.no_step)))
       (λ i h p us. expect_then m.Star us (word (fresh ns) spot ∷ close m.CloseParen ∷ []) (λ r z l. (tree.place (at.Through p spot (named (fresh ns) spot)) [], Place'.through (fresh-is ns) Steps.no_step)) (λ q vs.
       variable_then ns _ vs (close m.CloseParen ∷ []) (λ r z l. (tree.place (at.Through p q (named (fresh ns) spot)) [], Place'.through (fresh-is ns) Steps.no_step)) (λ w o ws v.
       expect_then m.CloseParen ws [] (λ r z l. (tree.place (at.Through p q (named w o)) [], Place'.through v Steps.no_step)) (λ c xs.
@@ -189,21 +188,20 @@ int_base ns n us = halts int [] (refl, refl) (λ r z l. (b.Scalar (w.Int ∷ [])
 module _ (ns : Names) (n : ℕ) (deeper : (i : ℕ) → n ≡ suc i → Deeper ns i) where
   plain_body_ends : (ts : List Token) → Ends n (AfterStruct ns) (Some' (AfterStruct ns)) ts (read.body ns n (inside ns n) None ts)
   unfolding read.body inside
-  plain_body_ends ts = opens_then (λ n p. (inside ns n).fields >>= (λ fs. expect m.CloseBrace >>= (λ q. pure (b.Struct (tree.structure None fs))))) n m.OpenBrace ts (int ∷ word letter spot ∷ close m.Semicolon ∷ close m.CloseBrace ∷ [])
-      (λ r z. (b.Struct (tree.structure None (tree.field int_type (letter_declr ∷ []) ∷ [])), λ at. Base'.structure (Struct'.plain (one-field ns r (close m.CloseBrace ∷ z)))))
+  plain_body_ends ts = opens_or (λ n p. (inside ns n).fields >>= (λ fs. expect m.CloseBrace >>= (λ q. pure (b.Struct (tree.structure None fs))))) n m.OpenBrace ts
+      (λ g. halts (word letter spot) [] (refl, refl) (λ r z l. (b.Tag (named letter spot), λ at. Base'.tag)))
       (λ i h p us. seq ((deeper i h).fields us) (close m.CloseBrace ∷ []) (λ r ss z l s. (b.Struct (tree.structure None (s.0)), plain_after ns r p spot ss (s.0) z (s.1))) (λ fs vs.
       expect_then m.CloseBrace vs [] (λ r z l ss s. (b.Struct (tree.structure None fs), plain_after ns r p spot ss fs z s)) (λ q ws. done (λ r zs l f ss s. plain_after ns r p q ss fs zs s))))
 
-  tagged_body_ends : (w : List ℕ) (by : Pos) (ts : List Token) → Ends n (λ r vs x us. AfterStruct ns r (word w by ∷ vs) x us) (λ r vs z. Some' (AfterStruct ns) r (word w by ∷ vs) z) ts (read.body ns n (inside ns n) (Some (named w by)) ts)
+  tagged_body_ends : (w : List ℕ) (by : Pos) (ts : List Token) → sees m.OpenBrace ts ≡ true → Ends n (λ r vs x us. AfterStruct ns r (word w by ∷ vs) x us) (λ r vs z. Some' (AfterStruct ns) r (word w by ∷ vs) z) ts (read.body ns n (inside ns n) (Some (named w by)) ts)
   unfolding read.body inside
-  tagged_body_ends w by ts = opens_then (λ n p. (inside ns n).fields >>= (λ fs. expect m.CloseBrace >>= (λ q. pure (b.Struct (tree.structure (Some (named w by)) fs))))) n m.OpenBrace ts (int ∷ word letter spot ∷ close m.Semicolon ∷ close m.CloseBrace ∷ [])
-      (λ r z. (b.Struct (tree.structure (Some (named w by)) (tree.field int_type (letter_declr ∷ []) ∷ [])), λ at. Base'.structure (Struct'.tagged (one-field ns r (close m.CloseBrace ∷ z)))))
+  tagged_body_ends w by ts g = opens_seen (λ n p. (inside ns n).fields >>= (λ fs. expect m.CloseBrace >>= (λ q. pure (b.Struct (tree.structure (Some (named w by)) fs))))) n m.OpenBrace ts g
       (λ i h p us. seq ((deeper i h).fields us) (close m.CloseBrace ∷ []) (λ r ss z l s. (b.Struct (tree.structure (Some (named w by)) (s.0)), tagged_after ns r w by p spot ss (s.0) z (s.1))) (λ fs vs.
       expect_then m.CloseBrace vs [] (λ r z l ss s. (b.Struct (tree.structure (Some (named w by)) fs), tagged_after ns r w by p spot ss fs z s)) (λ q ws. done (λ r zs l f ss s. tagged_after ns r w by p q ss fs zs s))))
 
   tagged_ends : (o : Option Named) (ts : List Token) → name_at ts ≡ o → Ends n (AfterStruct ns) (Some' (AfterStruct ns)) ts (read.tagged ns n (inside ns n) o ts)
   tagged_ends None ts h = plain_body_ends ts
-  tagged_ends (Some x) ts h = named_then (λ x us. cond (sees m.OpenBrace us) (read.body ns n (inside ns n) (Some x) us) (Got (b.Tag x) us)) (λ w by us. ends_if (sees m.OpenBrace us) (λ g. tagged_body_ends w by us) (λ g. done (λ r vs l f at. Base'.tag))) ts x h
+  tagged_ends (Some x) ts h = named_then (λ x us. cond (sees m.OpenBrace us) (read.body ns n (inside ns n) (Some x) us) (Got (b.Tag x) us)) (λ w by us. ends_if (sees m.OpenBrace us) (λ g. tagged_body_ends w by us g) (λ g. done (λ r vs l f at. Base'.tag))) ts x h
 
   struct_or_tag_ends : (ts : List Token) → Ends n (AfterStruct ns) (Some' (AfterStruct ns)) ts (read.struct_or_tag ns n (inside ns n) ts)
   unfolding read.struct_or_tag
@@ -245,15 +243,14 @@ specifiers_ends ns n deeper ts = ends_map (λ r us t vs g. g refl) (λ r us z s.
     seq (base_ends ns n deeper us) [] (λ r vs z l s ss q. (tree.specifiers (tree.pos_of ss) qs (s.0), Specifiers'.specifiers q (s.1))) (λ t vs. done (λ r zs l f us s ss q. type_at ns (tree.pos_of ts) r ss qs us t zs q s)))))
 
 module _ (ns : Names) (n : ℕ) (deeper : (i : ℕ) → n ≡ suc i → Deeper ns i) where
-  a_bound_ends : (ts : List Token) → Ends n (Front (Bounds ns)) (Some' (Bounds ns)) ts (read.a_bound ns n (inside ns n) ts)
+  a_bound_ends : (ts : List Token) → sees m.OpenBracket ts ≡ true → Ends n (Front (Bounds ns)) (Some' (Bounds ns)) ts (read.a_bound ns n (inside ns n) ts)
   unfolding read.a_bound inside
-  a_bound_ends ts = opens_then (λ n p. (inside ns n).whole >>= (λ a. expect m.CloseBracket >>= (λ q. pure (tree.bound p a)))) n m.OpenBracket ts (nought ∷ close m.CloseBracket ∷ [])
-      (λ r z. (tree.bound spot zero_expr ∷ [], Bounds.bound (zero-whole ns r (close m.CloseBracket ∷ z)) Bounds.no_bound))
+  a_bound_ends ts g = opens_seen (λ n p. (inside ns n).whole >>= (λ a. expect m.CloseBracket >>= (λ q. pure (tree.bound p a)))) n m.OpenBracket ts g
       (λ i h p us. seq ((deeper i h).whole us) (close m.CloseBracket ∷ []) (λ r ss z l s. (tree.bound p (s.0) ∷ [], Bounds.bound (s.1) Bounds.no_bound)) (λ a vs.
       expect_then m.CloseBracket vs [] (λ r z l ss s. (tree.bound p a ∷ [], Bounds.bound s Bounds.no_bound)) (λ q ws. done (λ r zs l f ss s xs ys t. Bounds.bound s t))))
 
   bounds_ends : (ts : List Token) → Ends n (Bounds ns) (Some' (Bounds ns)) ts (many (sees m.OpenBracket) (read.a_bound ns n (inside ns n)) ts)
-  bounds_ends ts = many_ends n (Bounds ns) (sees m.OpenBracket) (read.a_bound ns n (inside ns n)) (fine.a_bound_fine ns n (inside ns n) (inside_fine ns n)) (λ r us vs h f. Bounds.no_bound) (λ us h. a_bound_ends us) ts
+  bounds_ends ts = many_ends n (Bounds ns) (sees m.OpenBracket) (read.a_bound ns n (inside ns n)) (fine.a_bound_fine ns n (inside ns n) (inside_fine ns n)) (λ r us vs h f. Bounds.no_bound) (λ us h. a_bound_ends us h) ts
 
   pub declr_ends : (ts : List Token) → Ends n (Declr' ns) (Some' (Declr' ns)) ts (read.declr ns n (inside ns n) ts)
   unfolding read.declr
@@ -408,8 +405,8 @@ module _ (ns : Names) (n : ℕ) (deeper : (i : ℕ) → n ≡ suc i → Deeper n
 
   cast_ends : (ts : List Token) → Ends n (Unary ns) (Some' (Unary ns)) ts (read.cast ns n (inside ns n) ts)
   unfolding read.cast inside
-  cast_ends ts = opens_then (λ n p. (inside ns n).specifiers >>= (λ t. expect m.CloseParen >>= (λ q. (inside ns n).unary >>= (λ a. pure (e.Cast p t a))))) n m.OpenParen ts (int ∷ close m.CloseParen ∷ nought ∷ [])
-      (λ r z. (e.Cast spot int_type zero_expr, Unary.cast (int-type ns r (close m.CloseParen ∷ nought ∷ z) ScalarWords.no_word) Unary.number))
+  cast_ends ts = opens_or (λ n p. (inside ns n).specifiers >>= (λ t. expect m.CloseParen >>= (λ q. (inside ns n).unary >>= (λ a. pure (e.Cast p t a))))) n m.OpenParen ts
+      (λ g. nought_unary ns n ts)
       (λ i h p us. seq ((deeper i h).specifiers us) (close m.CloseParen ∷ nought ∷ []) (λ r ss z l s. (e.Cast p (s.0) zero_expr, Unary.cast (s.1) Unary.number)) (λ t vs.
       expect_then m.CloseParen vs (nought ∷ []) (λ r z l ss s. (e.Cast p t zero_expr, Unary.cast s Unary.number)) (λ q ws.
       seq ((deeper i h).unary ws) [] (λ r xs z l u ss s. (e.Cast p t (u.0), Unary.cast s (u.1))) (λ a xs. done (λ r zs l f ys u ss s. Unary.cast s u)))))
@@ -471,17 +468,16 @@ module _ (ns : Names) (n : ℕ) (deeper : (i : ℕ) → n ≡ suc i → Deeper n
   ranked_ends (suc l) ts = seq (ranked_ends l ts) [] (λ r ss z k s. (s.0, Ranked.alone (s.1))) (λ a us.
       seq (links_ends l (ranked_ends l) us) [] (λ r vs z k s ss i. (read.chained a (s.0), chained_ranked ns r l ss a vs (s.0) z i (s.1))) (λ xs vs. done (λ r zs k f us s ss i. chained_ranked ns r l ss a us xs zs i s)))
 
-  choice_ends : (c : Expr) (ts : List Token) → Ends n (λ r us x vs. (ss : List Token) → Ranked ns r loosest ss c us → Whole ns r ss x vs) (λ r us z. (ss : List Token) → Ranked ns r loosest ss c us → Some' (Whole ns) r ss z) ts (read.choice ns n (inside ns n) c ts)
+  choice_ends : (c : Expr) (ts : List Token) → sees m.Question ts ≡ true → Ends n (λ r us x vs. (ss : List Token) → Ranked ns r loosest ss c us → Whole ns r ss x vs) (λ r us z. (ss : List Token) → Ranked ns r loosest ss c us → Some' (Whole ns) r ss z) ts (read.choice ns n (inside ns n) c ts)
   unfolding read.choice inside
-  choice_ends c ts = opens_then (λ n p. (inside ns n).whole >>= (λ a. expect m.Colon >>= (λ q. (inside ns n).whole >>= (λ f. pure (e.Choice c p a f))))) n m.Question ts (nought ∷ close m.Colon ∷ nought ∷ [])
-      (λ r z ss i. (e.Choice c spot zero_expr zero_expr, Whole.choice i (zero-whole ns r (close m.Colon ∷ nought ∷ z)) (zero-whole ns r z)))
+  choice_ends c ts g = opens_seen (λ n p. (inside ns n).whole >>= (λ a. expect m.Colon >>= (λ q. (inside ns n).whole >>= (λ f. pure (e.Choice c p a f))))) n m.Question ts g
       (λ i h p us. seq ((deeper i h).whole us) (close m.Colon ∷ nought ∷ []) (λ r vs z l s ss i. (e.Choice c p (s.0) zero_expr, Whole.choice i (s.1) (zero-whole ns r z))) (λ a vs.
       expect_then m.Colon vs (nought ∷ []) (λ r z l us s ss i. (e.Choice c p a zero_expr, Whole.choice i s (zero-whole ns r z))) (λ q ws.
       seq ((deeper i h).whole ws) [] (λ r xs z l t us s ss i. (e.Choice c p a (t.0), Whole.choice i s (t.1))) (λ f xs. done (λ r zs l o ys t us s ss i. Whole.choice i s t)))))
 
   pub whole_ends : (ts : List Token) → Ends n (Whole ns) (Some' (Whole ns)) ts (read.whole ns n (inside ns n) ts)
   unfolding read.whole
-  whole_ends ts = seq (ranked_ends loosest ts) [] (λ r ss z l s. (s.0, Whole.binary (s.1))) (λ c us. ends_if (sees m.Question us) (λ h. choice_ends c us) (λ h. done (λ r zs l f ss i. Whole.binary i)))
+  whole_ends ts = seq (ranked_ends loosest ts) [] (λ r ss z l s. (s.0, Whole.binary (s.1))) (λ c us. ends_if (sees m.Question us) (λ h. choice_ends c us h) (λ h. done (λ r zs l f ss i. Whole.binary i)))
 
 pub deeper_ends : (ns : Names) (i : ℕ) → Deeper ns i
 deeper_ends ns zero = record { whole = whole_ends ns zero (λ i h. cc); unary = unary_ends ns zero (λ i h. cc); specifiers = specifiers_ends ns zero (λ i h. cc); fields = fields_ends ns zero (λ i h. cc) }

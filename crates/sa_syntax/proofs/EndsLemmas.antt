@@ -3,13 +3,14 @@ use Rattle.std.proofs.Common.{◌≡◌, ℕ, zero, suc, ◌+◌, ◌≤◌, ◌
 use Rattle.sa_base.specs.declared.pos.Pos.{Pos}
 use Rattle.sa_tokens.specs.declared.keyword.Keyword.{Keyword}
 use Rattle.sa_tokens.specs.declared.punct.Punct.{Punct}
-use Rattle.sa_tokens.specs.declared.punct.Punct.TheVariants.{Comma}
+use Rattle.sa_tokens.specs.declared.punct.Punct.TheVariants.{Comma, OpenParen}
 use Rattle.sa_tokens.specs.declared.token.Word.{Word}
 use Rattle.sa_tokens.specs.declared.token.Word.TheVariants.{Name, Number, Key, Mark}
 use Rattle.sa_tokens.specs.declared.token.Token.{Token}
 use Rattle.sa_syntax.specs.declared.decl.Name.{Name as Named}
 use Rattle.sa_syntax.specs.Trees.{pos_of}
 use Rattle.sa_syntax.specs.Words.{Names, mark, key, word, named, is_type_name, is_else, is_label, begins_with_else, begins_with_label}
+use Rattle.sa_syntax.specs.Refusals.{Deepens}
 use Rattle.sa_syntax.specs.Reading.{Read, Got, Stuck, Deep, Parser, and_then, is_mark, sees, after, expect, any_name, variable, name_at, key_at, mark_at, unless_type, taken, opens_any, opens, turns, while_from, many}
 use Rattle.sa_syntax.specs.ReadStmt.{takes, list_from, list}
 use Rattle.sa_syntax.proofs.ReadingLemmas.{Marked, Keyed, key_at_is, mark_at_is, sees_is, is_mark_same}
@@ -35,23 +36,72 @@ Mild t = (is_else t.word ≡ false) × (is_label t.word ≡ false)
 follows_mild : (us : List Token) (t : Token) (vs : List Token) → Mild t → Follows us (t ∷ vs)
 follows_mild us t vs o = record { no_else = λ h. o.0; no_label = λ h. o.1 }
 
+-- The room that the ending `ts` of a text needs, behind the tokens `b`: no more than there is, or as much more as tokens follow at
+-- each of which one more is open. `l` are such ones if what stands before all these tokens allows it.
+pub data Way (l : List Token) (n : ℕ) (b ts : List Token) (least : ℕ) : Type 0 where
+  fits : least ≤ n → Way l n b ts least
+  allowed : (more : List Token) → b ≡ [] → ts ≡ l ++ more → least ≤ n + length l → Way l n b ts least
+  earned : (c : List Token) (w : Token) (q more : List Token) → b ≡ c ++ w ∷ [] → Deepens w q → ts ≡ q ++ more → least ≤ n + length q → Way l n b ts least
+
 -- What was read is by the grammar in front of whatever may follow, with that much room and more. Where the reader is refused,
 -- some text goes on from there, with enough room.
-pub data Ends {A : Type 0} (n : ℕ) (G : ℕ → List Token → A → List Token → Type 0) (S : ℕ → List Token → List Token → Type 0) (ts : List Token) : Read A → Type 0 where
-  got : {a : A} {us : List Token} → (b : List Token) → ts ≡ b ++ us → ((m : ℕ) (vs : List Token) → n ≤ m → Follows us vs → G m (b ++ vs) a vs) → Ends n G S ts (Got a us)
-  stuck : {us : List Token} → (b : List Token) (t : Token) (tail : List Token) (least : ℕ) → ts ≡ b ++ us → Mild t → n ≤ least → ((m : ℕ) (rest : List Token) → least ≤ m → S m (b ++ t ∷ (tail ++ rest)) rest) → Ends n G S ts (Stuck us)
-  deep : {us : List Token} → Ends n G S ts (Deep us)
+pub data EndsAt (l : List Token) {A : Type 0} (n : ℕ) (G : ℕ → List Token → A → List Token → Type 0) (S : ℕ → List Token → List Token → Type 0) (ts : List Token) : Read A → Type 0 where
+  got : {a : A} {us : List Token} → (b : List Token) → ts ≡ b ++ us → ((m : ℕ) (vs : List Token) → n ≤ m → Follows us vs → G m (b ++ vs) a vs) → EndsAt l n G S ts (Got a us)
+  stuck : {us : List Token} → (b : List Token) (t : Token) (tail : List Token) (least : ℕ) → ts ≡ b ++ us → Mild t → n ≤ least → Way l n b (t ∷ tail) least → ((m : ℕ) (rest : List Token) → least ≤ m → S m (b ++ t ∷ (tail ++ rest)) rest) → EndsAt l n G S ts (Stuck us)
+  deep : {us : List Token} → EndsAt l n G S ts (Deep us)
+
+abbrev pub Ends : {A : Type 0} → ℕ → (ℕ → List Token → A → List Token → Type 0) → (ℕ → List Token → List Token → Type 0) → List Token → Read A → Type 0
+Ends n G S ts x = EndsAt [] n G S ts x
+
+way_more : {l : List Token} {n : ℕ} {b ts : List Token} {least : ℕ} (d : List Token) → Way l n b ts least → Way l n b (ts ++ d) least
+way_more d (Way.fits h) = Way.fits h
+way_more {l} d (Way.allowed more e f h) = Way.allowed (more ++ d) e (ap (λ z. z ++ d) f ∙ append_assoc l more d) h
+way_more d (Way.earned c w q more e o f h) = Way.earned c w q (more ++ d) e o (ap (λ z. z ++ d) f ∙ append_assoc q more d) h
+
+-- what the tokens before allow: nothing, or what the last of them does
+pub data Last (m l : List Token) (b : List Token) : Type 0 where
+  untouched : b ≡ [] → m ≡ l → Last m l b
+  ended : (c : List Token) (w : Token) → b ≡ c ++ w ∷ [] → Deepens w m → Last m l b
+
+append_nothing : (xs : List Token) → xs ++ [] ≡ xs
+append_nothing [] = refl
+append_nothing (x ∷ xs) = ap (λ z. x ∷ z) (append_nothing xs)
+
+way_behind : {m l : List Token} {n : ℕ} {ts : List Token} {least : ℕ} (b c : List Token) → Last m l b → Way m n c ts least → Way l n (b ++ c) ts least
+way_behind b c o (Way.fits h) = Way.fits h
+way_behind {n = n} {ts} {least} b c (Last.untouched f g) (Way.allowed more e i h) = Way.allowed more (ap (λ z. b ++ z) e ∙ append_nothing b ∙ f) (subst (λ z. ts ≡ z ++ more) g i) (subst (λ z. least ≤ n + length z) g h)
+way_behind {m} b c (Last.ended d w f g) (Way.allowed more e i h) = Way.earned d w m more (ap (λ z. b ++ z) e ∙ append_nothing b ∙ f) g i h
+way_behind b c o (Way.earned d w q more e p f h) = Way.earned (b ++ d) w q more (ap (λ z. b ++ z) e ∙ sym (append_assoc b d (w ∷ []))) p f h
+
+way_next : {l : List Token} {n : ℕ} {ts : List Token} {least : ℕ} (b c : List Token) → Way [] n c ts least → Way l n (b ++ c) ts least
+way_next {n = n} b c (Way.fits h) = Way.fits h
+way_next {n = n} {least = least} b c (Way.allowed more e i h) = Way.fits (omega (arith, h))
+way_next b c (Way.earned d w q more e p f h) = Way.earned (b ++ d) w q more (ap (λ z. b ++ z) e ∙ sym (append_assoc b d (w ∷ []))) p f h
+
+way_deeper : {l : List Token} {n : ℕ} {b ts : List Token} {least : ℕ} → Way l n b ts least → Way l (suc n) b ts (suc least)
+way_deeper (Way.fits h) = Way.fits (omega (arith, h))
+way_deeper (Way.allowed more e f h) = Way.allowed more e f (omega (arith, h))
+way_deeper (Way.earned c w q more e o f h) = Way.earned c w q more e o f (omega (arith, h))
+
+way_back : {l : List Token} {n : ℕ} {b ts : List Token} {least : ℕ} → Way l (suc n) b ts (suc least) → Way l n b ts least
+way_back (Way.fits h) = Way.fits (omega (arith, h))
+way_back (Way.allowed more e f h) = Way.allowed more e f (omega (arith, h))
+way_back (Way.earned c w q more e o f h) = Way.earned c w q more e o f (omega (arith, h))
 
 abbrev pub Some' : {A : Type 0} → (ℕ → List Token → A → List Token → Type 0) → ℕ → List Token → List Token → Type 0
 Some' {A} P m ts rest = (a : A) × P m ts a rest
 
-pub done : {A : Type 0} {n : ℕ} {G : ℕ → List Token → A → List Token → Type 0} {S : ℕ → List Token → List Token → Type 0} {a : A} {us : List Token} → ((m : ℕ) (vs : List Token) → n ≤ m → Follows us vs → G m vs a vs) → Ends n G S us (Got a us)
-done go = Ends.got [] refl go
+pub done : {A : Type 0} {l : List Token} {n : ℕ} {G : ℕ → List Token → A → List Token → Type 0} {S : ℕ → List Token → List Token → Type 0} {a : A} {us : List Token} → ((m : ℕ) (vs : List Token) → n ≤ m → Follows us vs → G m vs a vs) → EndsAt l n G S us (Got a us)
+done go = EndsAt.got [] refl go
 
-pub halts : {A : Type 0} {n : ℕ} {G : ℕ → List Token → A → List Token → Type 0} {S : ℕ → List Token → List Token → Type 0} {us : List Token} (t : Token) (tail : List Token) → Mild t → ((m : ℕ) (rest : List Token) → n ≤ m → S m (t ∷ (tail ++ rest)) rest) → Ends {A = A} n G S us (Stuck us)
-halts {n = n} t tail o go = Ends.stuck [] t tail n refl o (omega arith) go
+pub halts : {A : Type 0} {l : List Token} {n : ℕ} {G : ℕ → List Token → A → List Token → Type 0} {S : ℕ → List Token → List Token → Type 0} {us : List Token} (t : Token) (tail : List Token) → Mild t → ((m : ℕ) (rest : List Token) → n ≤ m → S m (t ∷ (tail ++ rest)) rest) → EndsAt l {A = A} n G S us (Stuck us)
+halts {n = n} t tail o go = EndsAt.stuck [] t tail n refl o (omega arith) (Way.fits (omega arith)) go
 
-pub ends_if : {A : Type 0} {n : ℕ} {G : ℕ → List Token → A → List Token → Type 0} {S : ℕ → List Token → List Token → Type 0} {ts : List Token} {x y : Read A} (b : Bool) → (b ≡ true → Ends n G S ts x) → (b ≡ false → Ends n G S ts y) → Ends n G S ts (cond b x y)
+-- where what stands before allows what the ending begins with
+pub waits : {A : Type 0} {n : ℕ} {G : ℕ → List Token → A → List Token → Type 0} {S : ℕ → List Token → List Token → Type 0} {us : List Token} (l : List Token) (t : Token) (tail more : List Token) → t ∷ tail ≡ l ++ more → Mild t → ((m : ℕ) (rest : List Token) → n + length l ≤ m → S m (t ∷ (tail ++ rest)) rest) → EndsAt l {A = A} n G S us (Stuck us)
+waits {n = n} l t tail more e o go = EndsAt.stuck [] t tail (n + length l) refl o (omega arith) (Way.allowed more refl e (omega arith)) go
+
+pub ends_if : {A : Type 0} {l : List Token} {n : ℕ} {G : ℕ → List Token → A → List Token → Type 0} {S : ℕ → List Token → List Token → Type 0} {ts : List Token} {x y : Read A} (b : Bool) → (b ≡ true → EndsAt l n G S ts x) → (b ≡ false → EndsAt l n G S ts y) → EndsAt l n G S ts (cond b x y)
 ends_if true one other = one refl
 ends_if false one other = other refl
 
@@ -59,55 +109,76 @@ pub ends_reader : {A : Type 0} {n : ℕ} {G : ℕ → List Token → A → List 
 ends_reader p q true ts one other = one refl
 ends_reader p q false ts one other = other refl
 
-pub ends_map : {A : Type 0} {n : ℕ} {G H : ℕ → List Token → A → List Token → Type 0} {S T : ℕ → List Token → List Token → Type 0} {ts : List Token} {x : Read A} → ((m : ℕ) (us : List Token) (a : A) (vs : List Token) → G m us a vs → H m us a vs) → ((m : ℕ) (us vs : List Token) → S m us vs → T m us vs) → Ends n G S ts x → Ends n H T ts x
-ends_map go through (Ends.got {a} b e w) = Ends.got b e (λ m vs l o. go m (b ++ vs) a vs (w m vs l o))
-ends_map go through (Ends.stuck b t tail least e o l w) = Ends.stuck b t tail least e o l (λ m rest k. through m (b ++ t ∷ (tail ++ rest)) rest (w m rest k))
-ends_map go through Ends.deep = Ends.deep
+pub ends_map : {A : Type 0} {l : List Token} {n : ℕ} {G H : ℕ → List Token → A → List Token → Type 0} {S T : ℕ → List Token → List Token → Type 0} {ts : List Token} {x : Read A} → ((m : ℕ) (us : List Token) (a : A) (vs : List Token) → G m us a vs → H m us a vs) → ((m : ℕ) (us vs : List Token) → S m us vs → T m us vs) → EndsAt l n G S ts x → EndsAt l n H T ts x
+ends_map go through (EndsAt.got {a} b e w) = EndsAt.got b e (λ m vs l o. go m (b ++ vs) a vs (w m vs l o))
+ends_map go through (EndsAt.stuck b t tail least e o l y w) = EndsAt.stuck b t tail least e o l y (λ m rest k. through m (b ++ t ∷ (tail ++ rest)) rest (w m rest k))
+ends_map go through EndsAt.deep = EndsAt.deep
+
+-- nothing before allows more
+pub anyway : {A : Type 0} (l : List Token) {n : ℕ} {G : ℕ → List Token → A → List Token → Type 0} {S : ℕ → List Token → List Token → Type 0} {ts : List Token} {x : Read A} → Ends n G S ts x → EndsAt l n G S ts x
+anyway l (EndsAt.got b e w) = EndsAt.got b e w
+anyway l (EndsAt.stuck b t tail least e o h y w) = EndsAt.stuck b t tail least e o h (way_next [] b y) w
+anyway l EndsAt.deep = EndsAt.deep
 
 -- ---- one after the other
-behind : {A B : Type 0} {n : ℕ} (F : ℕ → List Token → A → List Token → Type 0) {G : ℕ → List Token → B → List Token → Type 0} {S : ℕ → List Token → List Token → Type 0} (ts b us : List Token) (a : A) → ts ≡ b ++ us → ((m : ℕ) (vs : List Token) → n ≤ m → Follows us vs → F m (b ++ vs) a vs)
-    → {y : Read B} → Ends n (λ m vs c ws. F m (b ++ vs) a vs → G m (b ++ vs) c ws) (λ m vs rest. F m (b ++ vs) a vs → S m (b ++ vs) rest) us y → Ends n G S ts y
-behind {n = n} F {G} {S} ts b us a e w (Ends.got {a = x} {us = ws} c f v) = Ends.got (b ++ c) (e ∙ ap (λ z. b ++ z) f ∙ sym (append_assoc b c ws)) (λ m vs l o.
+behind : {A B : Type 0} {m l : List Token} {n : ℕ} (F : ℕ → List Token → A → List Token → Type 0) {G : ℕ → List Token → B → List Token → Type 0} {S : ℕ → List Token → List Token → Type 0} (ts b us : List Token) (a : A) → ts ≡ b ++ us → ((m : ℕ) (vs : List Token) → n ≤ m → Follows us vs → F m (b ++ vs) a vs)
+    → ((c us : List Token) (least : ℕ) → Way m n c us least → Way l n (b ++ c) us least)
+    → {y : Read B} → EndsAt m n (λ m vs c ws. F m (b ++ vs) a vs → G m (b ++ vs) c ws) (λ m vs rest. F m (b ++ vs) a vs → S m (b ++ vs) rest) us y → EndsAt l n G S ts y
+behind {n = n} F {G} {S} ts b us a e w way (EndsAt.got {a = x} {us = ws} c f v) = EndsAt.got (b ++ c) (e ∙ ap (λ z. b ++ z) f ∙ sym (append_assoc b c ws)) (λ m vs l o.
     let first : F m (b ++ (c ++ vs)) a (c ++ vs) = w m (c ++ vs) l (subst (λ z. Follows z (c ++ vs)) (sym f) (follows_front c ws vs o)) in
     subst (λ z. G m z x vs) (sym (append_assoc b c vs)) (v m vs l o first))
-behind {n = n} F {G} {S} ts b us a e w (Ends.stuck {us = ws} c t tail least f o l v) = Ends.stuck (b ++ c) t tail least (e ∙ ap (λ z. b ++ z) f ∙ sym (append_assoc b c ws)) o l (λ m rest k.
+behind {n = n} F {G} {S} ts b us a e w way (EndsAt.stuck {us = ws} c t tail least f o l y v) = EndsAt.stuck (b ++ c) t tail least (e ∙ ap (λ z. b ++ z) f ∙ sym (append_assoc b c ws)) o l (way c (t ∷ tail) least y) (λ m rest k.
     let first : F m (b ++ (c ++ t ∷ (tail ++ rest))) a (c ++ t ∷ (tail ++ rest)) = w m (c ++ t ∷ (tail ++ rest)) (omega (arith, l, k)) (subst (λ z. Follows z (c ++ t ∷ (tail ++ rest))) (sym f) (follows_front c ws (t ∷ (tail ++ rest)) (follows_mild ws t (tail ++ rest) o))) in
     subst (λ z. S m z rest) (sym (append_assoc b c (t ∷ (tail ++ rest)))) (v m rest k first))
-behind F ts b us a e w Ends.deep = Ends.deep
+behind F ts b us a e w way EndsAt.deep = EndsAt.deep
 
 no_longer : (ts b us : List Token) → ts ≡ b ++ us → length us ≤ length ts
 no_longer ts b us e = let n : length ts ≡ length (b ++ us) = ap length e in let k : length (b ++ us) ≡ length b + length us = length-append b us in omega (arith, n, k)
 
-seq_at : {A B : Type 0} {n : ℕ} {F : ℕ → List Token → A → List Token → Type 0} {E S : ℕ → List Token → List Token → Type 0} {G : ℕ → List Token → B → List Token → Type 0} (ts d : List Token) (f : A → Parser B) (x y : Read A) → x ≡ y
+seq_at : {A B : Type 0} (m : List Token) {l : List Token} {n : ℕ} {F : ℕ → List Token → A → List Token → Type 0} {E S : ℕ → List Token → List Token → Type 0} {G : ℕ → List Token → B → List Token → Type 0} (ts d : List Token) (f : A → Parser B) (x y : Read A) → x ≡ y
     → ((m : ℕ) (ss rest : List Token) → n ≤ m → E m ss (d ++ rest) → S m ss rest)
-    → ((a : A) (b us : List Token) → x ≡ Got a us → ts ≡ b ++ us → F n ts a us → Ends n (λ m vs c ws. F m (b ++ vs) a vs → G m (b ++ vs) c ws) (λ m vs rest. F m (b ++ vs) a vs → S m (b ++ vs) rest) us (f a us))
-    → Ends n F E ts y → Ends n G S ts (and_then y f)
-seq_at {n = n} {F} ts d f x _ same shut go (Ends.got {a} {us} b e w) = behind F ts b us a e w (go a b us same e (subst (λ z. F n z a us) (sym e) (w n us (omega arith) (follows_same us))))
-seq_at {n = n} {S = S} ts d f x _ same shut go (Ends.stuck b t tail least e o l w) = Ends.stuck b t (tail ++ d) least e o l (λ m rest k.
+    → ((a : A) (b us : List Token) → ts ≡ b ++ us → F n ts a us → (c vs : List Token) (least : ℕ) → Way m n c vs least → Way l n (b ++ c) vs least)
+    → ((a : A) (b us : List Token) → x ≡ Got a us → ts ≡ b ++ us → F n ts a us → EndsAt m n (λ m vs c ws. F m (b ++ vs) a vs → G m (b ++ vs) c ws) (λ m vs rest. F m (b ++ vs) a vs → S m (b ++ vs) rest) us (f a us))
+    → EndsAt l n F E ts y → EndsAt l n G S ts (and_then y f)
+seq_at m {n = n} {F} ts d f x _ same shut way go (EndsAt.got {a} {us} b e w) =
+    let first : F n ts a us = subst (λ z. F n z a us) (sym e) (w n us (omega arith) (follows_same us)) in
+    behind F ts b us a e w (way a b us e first) (go a b us same e first)
+seq_at m {n = n} {S = S} ts d f x _ same shut way go (EndsAt.stuck b t tail least e o l y w) = EndsAt.stuck b t (tail ++ d) least e o l (way_more d y) (λ m rest k.
     subst (λ z. S m (b ++ t ∷ z) rest) (sym (append_assoc tail d rest)) (shut m (b ++ t ∷ (tail ++ (d ++ rest))) rest (omega (arith, l, k)) (w m (d ++ rest) k)))
-seq_at ts d f x _ same shut go Ends.deep = Ends.deep
+seq_at m ts d f x _ same shut way go EndsAt.deep = EndsAt.deep
 
 -- with what was read in front
-pub seq_front : {A B : Type 0} {n : ℕ} {F : ℕ → List Token → A → List Token → Type 0} {E S : ℕ → List Token → List Token → Type 0} {G : ℕ → List Token → B → List Token → Type 0} {ts : List Token} {f : A → Parser B} {x : Read A} → Ends n F E ts x → (d : List Token)
+pub seq_front : {A B : Type 0} {l : List Token} {n : ℕ} {F : ℕ → List Token → A → List Token → Type 0} {E S : ℕ → List Token → List Token → Type 0} {G : ℕ → List Token → B → List Token → Type 0} {ts : List Token} {f : A → Parser B} {x : Read A} → EndsAt l n F E ts x → (d : List Token)
     → ((m : ℕ) (ss rest : List Token) → n ≤ m → E m ss (d ++ rest) → S m ss rest)
-    → ((a : A) (b us : List Token) → x ≡ Got a us → ts ≡ b ++ us → F n ts a us → Ends n (λ m vs c ws. F m (b ++ vs) a vs → G m (b ++ vs) c ws) (λ m vs rest. F m (b ++ vs) a vs → S m (b ++ vs) rest) us (f a us)) → Ends n G S ts (and_then x f)
-seq_front {ts = ts} {f} {x} one d shut go = seq_at ts d f x x refl shut go one
+    → ((a : A) (b us : List Token) → x ≡ Got a us → ts ≡ b ++ us → F n ts a us → Ends n (λ m vs c ws. F m (b ++ vs) a vs → G m (b ++ vs) c ws) (λ m vs rest. F m (b ++ vs) a vs → S m (b ++ vs) rest) us (f a us)) → EndsAt l n G S ts (and_then x f)
+seq_front {ts = ts} {f} {x} one d shut go = seq_at [] ts d f x x refl shut (λ a b us e i c vs least y. way_next b c y) go one
 
-pub seq_with : {A B : Type 0} {n : ℕ} {F : ℕ → List Token → A → List Token → Type 0} {E S : ℕ → List Token → List Token → Type 0} {G : ℕ → List Token → B → List Token → Type 0} {ts : List Token} {f : A → Parser B} {x : Read A} → Ends n F E ts x → (d : List Token)
+-- where the last token that was read allows what the ending begins with
+pub seq_last : {A B : Type 0} (m : List Token) {l : List Token} {n : ℕ} {F : ℕ → List Token → A → List Token → Type 0} {E S : ℕ → List Token → List Token → Type 0} {G : ℕ → List Token → B → List Token → Type 0} {ts : List Token} {f : A → Parser B} {x : Read A} → EndsAt l n F E ts x → (d : List Token)
     → ((m : ℕ) (ss rest : List Token) → n ≤ m → E m ss (d ++ rest) → S m ss rest)
-    → ((a : A) (us : List Token) → x ≡ Got a us → length us ≤ length ts → F n ts a us → Ends n (λ m vs c ws. (ss : List Token) → F m ss a vs → G m ss c ws) (λ m vs rest. (ss : List Token) → F m ss a vs → S m ss rest) us (f a us)) → Ends n G S ts (and_then x f)
-seq_with {ts = ts} {f} {x} one d shut go = seq_at ts d f x x refl shut (λ a b us e h i. ends_map (λ m vs c ws g j. g (b ++ vs) j) (λ m vs rest g j. g (b ++ vs) j) (go a us e (no_longer ts b us h) i)) one
+    → ((a : A) (b us : List Token) → ts ≡ b ++ us → F n ts a us → Last m l b)
+    → ((a : A) (us : List Token) → EndsAt m n (λ m vs c ws. (ss : List Token) → F m ss a vs → G m ss c ws) (λ m vs rest. (ss : List Token) → F m ss a vs → S m ss rest) us (f a us)) → EndsAt l n G S ts (and_then x f)
+seq_last m {ts = ts} {f} {x} one d shut last go = seq_at m ts d f x x refl shut (λ a b us e i c vs least y. way_behind b c (last a b us e i) y) (λ a b us e h i. ends_map (λ m vs c ws g j. g (b ++ vs) j) (λ m vs rest g j. g (b ++ vs) j) (go a us)) one
 
-pub seq : {A B : Type 0} {n : ℕ} {F : ℕ → List Token → A → List Token → Type 0} {E S : ℕ → List Token → List Token → Type 0} {G : ℕ → List Token → B → List Token → Type 0} {ts : List Token} {f : A → Parser B} {x : Read A} → Ends n F E ts x → (d : List Token)
+pub seq_with : {A B : Type 0} {l : List Token} {n : ℕ} {F : ℕ → List Token → A → List Token → Type 0} {E S : ℕ → List Token → List Token → Type 0} {G : ℕ → List Token → B → List Token → Type 0} {ts : List Token} {f : A → Parser B} {x : Read A} → EndsAt l n F E ts x → (d : List Token)
     → ((m : ℕ) (ss rest : List Token) → n ≤ m → E m ss (d ++ rest) → S m ss rest)
-    → ((a : A) (us : List Token) → Ends n (λ m vs c ws. (ss : List Token) → F m ss a vs → G m ss c ws) (λ m vs rest. (ss : List Token) → F m ss a vs → S m ss rest) us (f a us)) → Ends n G S ts (and_then x f)
+    → ((a : A) (us : List Token) → x ≡ Got a us → length us ≤ length ts → F n ts a us → Ends n (λ m vs c ws. (ss : List Token) → F m ss a vs → G m ss c ws) (λ m vs rest. (ss : List Token) → F m ss a vs → S m ss rest) us (f a us)) → EndsAt l n G S ts (and_then x f)
+seq_with {ts = ts} one d shut go = seq_front one d shut (λ a b us e h i. ends_map (λ m vs c ws g j. g (b ++ vs) j) (λ m vs rest g j. g (b ++ vs) j) (go a us e (no_longer ts b us h) i))
+
+pub seq : {A B : Type 0} {l : List Token} {n : ℕ} {F : ℕ → List Token → A → List Token → Type 0} {E S : ℕ → List Token → List Token → Type 0} {G : ℕ → List Token → B → List Token → Type 0} {ts : List Token} {f : A → Parser B} {x : Read A} → EndsAt l n F E ts x → (d : List Token)
+    → ((m : ℕ) (ss rest : List Token) → n ≤ m → E m ss (d ++ rest) → S m ss rest)
+    → ((a : A) (us : List Token) → Ends n (λ m vs c ws. (ss : List Token) → F m ss a vs → G m ss c ws) (λ m vs rest. (ss : List Token) → F m ss a vs → S m ss rest) us (f a us)) → EndsAt l n G S ts (and_then x f)
 seq one d shut go = seq_with one d shut (λ a us e l h. go a us)
 
 -- ---- tokens
-pub stepped : {A : Type 0} {n : ℕ} {G : ℕ → List Token → A → List Token → Type 0} {S : ℕ → List Token → List Token → Type 0} (t : Token) {us : List Token} {y : Read A} → Ends n (λ m vs c ws. G m (t ∷ vs) c ws) (λ m vs rest. S m (t ∷ vs) rest) us y → Ends n G S (t ∷ us) y
-stepped t (Ends.got b e w) = Ends.got (t ∷ b) (ap (λ z. t ∷ z) e) w
-stepped t (Ends.stuck b h tail least e o l w) = Ends.stuck (t ∷ b) h tail least (ap (λ z. t ∷ z) e) o l w
-stepped t Ends.deep = Ends.deep
+-- a token that allows so many more behind it
+pub stepped_to : {A : Type 0} {l m : List Token} {n : ℕ} {G : ℕ → List Token → A → List Token → Type 0} {S : ℕ → List Token → List Token → Type 0} (t : Token) → Deepens t m → {us : List Token} {y : Read A} → EndsAt m n (λ m vs c ws. G m (t ∷ vs) c ws) (λ m vs rest. S m (t ∷ vs) rest) us y → EndsAt l n G S (t ∷ us) y
+stepped_to t i (EndsAt.got b e w) = EndsAt.got (t ∷ b) (ap (λ z. t ∷ z) e) w
+stepped_to t i (EndsAt.stuck b h tail least e o l y w) = EndsAt.stuck (t ∷ b) h tail least (ap (λ z. t ∷ z) e) o l (way_behind (t ∷ []) b (Last.ended [] t refl i) y) w
+stepped_to t i EndsAt.deep = EndsAt.deep
+
+pub stepped : {A : Type 0} {l : List Token} {n : ℕ} {G : ℕ → List Token → A → List Token → Type 0} {S : ℕ → List Token → List Token → Type 0} (t : Token) {us : List Token} {y : Read A} → Ends n (λ m vs c ws. G m (t ∷ vs) c ws) (λ m vs rest. S m (t ∷ vs) rest) us y → EndsAt l n G S (t ∷ us) y
+stepped t one = stepped_to t Deepens.nothing one
 
 at_word : {A : Type 0} {n : ℕ} {G : ℕ → List Token → A → List Token → Type 0} {S : ℕ → List Token → List Token → Type 0} (v w : Word) (p : Pos) {us : List Token} {y : Read A} → v ≡ w → Ends n (λ m vs c ws. G m ((record { word = w; pos = p }) ∷ vs) c ws) (λ m vs rest. S m ((record { word = w; pos = p }) ∷ vs) rest) us y
     → Ends n G S ((record { word = v; pos = p }) ∷ us) y
@@ -197,6 +268,13 @@ key_at_then kw _ (Keyed.keyed {p} {us}) go = stepped (key kw p) (go p us)
 pub key_then : {B : Type 0} {n : ℕ} {G : ℕ → List Token → B → List Token → Type 0} {S : ℕ → List Token → List Token → Type 0} (kw : Keyword) {f : Pos → Parser B} (ts : List Token) → key_at ts ≡ Some kw → ((p : Pos) (us : List Token) → Ends n (λ m vs c ws. G m (key kw p ∷ vs) c ws) (λ m vs rest. S m (key kw p ∷ vs) rest) us (f p us)) → Ends n G S ts (and_then (takes ts) f)
 key_then kw ts h go = key_at_then kw ts (key_at_is ts kw h) go
 
+-- a keyword that is there, and allows so many more behind it
+key_at_to : {B : Type 0} {m : List Token} {n : ℕ} {G : ℕ → List Token → B → List Token → Type 0} {S : ℕ → List Token → List Token → Type 0} (kw : Keyword) {f : Pos → Parser B} (ts : List Token) → Keyed kw ts → ((p : Pos) → Deepens (key kw p) m) → ((p : Pos) (us : List Token) → EndsAt m n (λ m vs c ws. G m (key kw p ∷ vs) c ws) (λ m vs rest. S m (key kw p ∷ vs) rest) us (f p us)) → Ends n G S ts (and_then (takes ts) f)
+key_at_to kw _ (Keyed.keyed {p} {us}) i go = stepped_to (key kw p) (i p) (go p us)
+
+pub key_to : {B : Type 0} {m : List Token} {n : ℕ} {G : ℕ → List Token → B → List Token → Type 0} {S : ℕ → List Token → List Token → Type 0} (kw : Keyword) {f : Pos → Parser B} (ts : List Token) → key_at ts ≡ Some kw → ((p : Pos) → Deepens (key kw p) m) → ((p : Pos) (us : List Token) → EndsAt m n (λ m vs c ws. G m (key kw p ∷ vs) c ws) (λ m vs rest. S m (key kw p ∷ vs) rest) us (f p us)) → Ends n G S ts (and_then (takes ts) f)
+key_to kw ts h i go = key_at_to kw ts (key_at_is ts kw h) i go
+
 keyed_from : {B : Type 0} {n : ℕ} {G : ℕ → List Token → B → List Token → Type 0} {S : ℕ → List Token → List Token → Type 0} (kw : Keyword) (f : Parser B) (ts : List Token) → Keyed kw ts → ((p : Pos) (us : List Token) → Ends n (λ m vs c ws. G m (key kw p ∷ vs) c ws) (λ m vs rest. S m (key kw p ∷ vs) rest) us (f us)) → Ends n G S ts (f (after ts))
 keyed_from kw f _ (Keyed.keyed {p} {us}) go = stepped (key kw p) (go p us)
 
@@ -219,55 +297,73 @@ pub seen_then : {A : Type 0} {n : ℕ} {G : ℕ → List Token → A → List To
 seen_then mk f ts h go = let x = sees_is mk ts h in front_mark mk f ts (x.0) (after ts) (x.1) (λ p. go p (after ts) refl)
 
 -- ---- opening tokens
-pub shifted : {A : Type 0} {G : ℕ → List Token → A → List Token → Type 0} {S : ℕ → List Token → List Token → Type 0} (i : ℕ) (us : List Token) {y : Read A} → Ends i (λ m vs c ws. G (suc m) vs c ws) (λ m vs rest. S (suc m) vs rest) us y → Ends (suc i) G S us y
-shifted {G = G} i us (Ends.got {a} {us = rest} b e w) = Ends.got b e roomy
+pub shifted : {A : Type 0} {l : List Token} {G : ℕ → List Token → A → List Token → Type 0} {S : ℕ → List Token → List Token → Type 0} (i : ℕ) (us : List Token) {y : Read A} → EndsAt l i (λ m vs c ws. G (suc m) vs c ws) (λ m vs rest. S (suc m) vs rest) us y → EndsAt l (suc i) G S us y
+shifted {G = G} i us (EndsAt.got {a} {us = rest} b e w) = EndsAt.got b e roomy
   where
     roomy : (m : ℕ) (vs : List Token) → suc i ≤ m → Follows rest vs → G m (b ++ vs) a vs
     roomy zero vs l o = absurd (omega (arith, l))
     roomy (suc m) vs l o = w m vs (omega (arith, l)) o
-shifted {S = S} i us (Ends.stuck b t tail least e o l w) = Ends.stuck b t tail (suc least) e o (omega (arith, l)) roomy
+shifted {S = S} i us (EndsAt.stuck b t tail least e o l y w) = EndsAt.stuck b t tail (suc least) e o (omega (arith, l)) (way_deeper y) roomy
   where
     roomy : (m : ℕ) (rest : List Token) → suc least ≤ m → S m (b ++ t ∷ (tail ++ rest)) rest
     roomy zero rest k = absurd (omega (arith, k))
     roomy (suc m) rest k = w m rest (omega (arith, k))
-shifted i us Ends.deep = Ends.deep
-
-pub deeper : {A : Type 0} {G : ℕ → List Token → A → List Token → Type 0} {S : ℕ → List Token → List Token → Type 0} (i : ℕ) (us : List Token) {y : Read A} → Ends i (λ m vs c ws. G (suc m) vs c ws) (λ m vs rest. S (suc m) vs rest) us y → Ends (suc i) G S us y
-deeper {G = G} {S = S} i us one = shifted {G = G} {S = S} i us one
+shifted i us EndsAt.deep = EndsAt.deep
 
 -- what has as much room again
-pub restored : {A : Type 0} {G : ℕ → List Token → A → List Token → Type 0} {S : ℕ → List Token → List Token → Type 0} (i : ℕ) (us : List Token) {y : Read A} → Ends (suc i) G S us y → Ends i (λ m vs c ws. G (suc m) vs c ws) (λ m vs rest. S (suc m) vs rest) us y
-restored i us (Ends.got b e w) = Ends.got b e (λ m vs l o. w (suc m) vs (omega (arith, l)) o)
-restored i us (Ends.stuck b t tail zero e o l w) = absurd (omega (arith, l))
-restored i us (Ends.stuck b t tail (suc least) e o l w) = Ends.stuck b t tail least e o (omega (arith, l)) (λ m rest k. w (suc m) rest (omega (arith, k)))
-restored i us Ends.deep = Ends.deep
+pub restored : {A : Type 0} {l : List Token} {G : ℕ → List Token → A → List Token → Type 0} {S : ℕ → List Token → List Token → Type 0} (i : ℕ) (us : List Token) {y : Read A} → EndsAt l (suc i) G S us y → EndsAt l i (λ m vs c ws. G (suc m) vs c ws) (λ m vs rest. S (suc m) vs rest) us y
+restored i us (EndsAt.got b e w) = EndsAt.got b e (λ m vs l o. w (suc m) vs (omega (arith, l)) o)
+restored i us (EndsAt.stuck b t tail zero e o l y w) = absurd (omega (arith, l))
+restored i us (EndsAt.stuck b t tail (suc least) e o l y w) = EndsAt.stuck b t tail least e o (omega (arith, l)) (way_back y) (λ m rest k. w (suc m) rest (omega (arith, k)))
+restored i us EndsAt.deep = EndsAt.deep
+
+opens_any_to : {B : Type 0} {l m : List Token} {G : ℕ → List Token → B → List Token → Type 0} {S : ℕ → List Token → List Token → Type 0} (f : ℕ → Pos → Parser B) (n : ℕ) (t : Token) (us : List Token) → Deepens t m
+    → ((i : ℕ) → n ≡ suc i → EndsAt m i (λ m vs c ws. G (suc m) (t ∷ vs) c ws) (λ m vs rest. S (suc m) (t ∷ vs) rest) us (f (suc i) t.pos us)) → EndsAt l n G S (t ∷ us) (and_then (opens_any n (t ∷ us)) (f n))
+unfolding opens_any
+opens_any_to f zero t us d go = EndsAt.deep
+opens_any_to {G = G} {S = S} f (suc n) t us d go = stepped_to t d (shifted {G = λ m vs c ws. G m (t ∷ vs) c ws} {S = λ m vs rest. S m (t ∷ vs) rest} n us (go n refl))
 
 pub opens_any_then : {B : Type 0} {G : ℕ → List Token → B → List Token → Type 0} {S : ℕ → List Token → List Token → Type 0} (f : ℕ → Pos → Parser B) (n : ℕ) (t : Token) (us : List Token)
     → ((i : ℕ) → n ≡ suc i → Ends i (λ m vs c ws. G (suc m) (t ∷ vs) c ws) (λ m vs rest. S (suc m) (t ∷ vs) rest) us (f (suc i) t.pos us)) → Ends n G S (t ∷ us) (and_then (opens_any n (t ∷ us)) (f n))
-unfolding opens_any
-opens_any_then f zero t us go = Ends.deep
-opens_any_then {G = G} {S = S} f (suc n) t us go = stepped t (shifted {G = λ m vs c ws. G m (t ∷ vs) c ws} {S = λ m vs rest. S m (t ∷ vs) rest} n us (go n refl))
+opens_any_then f n t us go = opens_any_to f n t us Deepens.nothing go
 
 one_more : (X : ℕ → Type 0) (n : ℕ) → ((m : ℕ) → n ≤ suc m → X (suc m)) → (m : ℕ) → n ≤ m → 1 ≤ m → X m
 one_more X n go zero l k = absurd (omega (arith, k))
 one_more X n go (suc m) l k = go m l
 
--- a mark that opens one more; the text `d` behind it ends what it opens, with that much room inside
-pub opens_from : {B : Type 0} {G : ℕ → List Token → B → List Token → Type 0} {S : ℕ → List Token → List Token → Type 0} (k : ℕ) (f : ℕ → Pos → Parser B) (n : ℕ) (mk : Punct) (ts d : List Token) → ((m : ℕ) (rest : List Token) → k ≤ m → S (suc m) (close mk ∷ (d ++ rest)) rest)
-    → ((i : ℕ) → n ≡ suc i → (p : Pos) (us : List Token) → Ends i (λ m vs c ws. G (suc m) (mark mk p ∷ vs) c ws) (λ m vs rest. S (suc m) (mark mk p ∷ vs) rest) us (f (suc i) p us)) → Ends n G S ts (and_then (opens n mk ts) (f n))
+-- a mark that opens one more, behind which so many more may come; where it isn't there some other text goes on
+opens_to : {B : Type 0} {l m : List Token} {G : ℕ → List Token → B → List Token → Type 0} {S : ℕ → List Token → List Token → Type 0} (f : ℕ → Pos → Parser B) (n : ℕ) (mk : Punct) (ts : List Token) → ((p : Pos) → Deepens (mark mk p) m) → (sees mk ts ≡ false → EndsAt l n G S ts (Stuck ts))
+    → ((i : ℕ) → n ≡ suc i → (p : Pos) (us : List Token) → EndsAt m i (λ m vs c ws. G (suc m) (mark mk p ∷ vs) c ws) (λ m vs rest. S (suc m) (mark mk p ∷ vs) rest) us (f (suc i) p us)) → EndsAt l n G S ts (and_then (opens n mk ts) (f n))
 unfolding opens
-opens_from {G = G} {S} k f n mk ts d shut go = by_test (sees mk ts) refl
+opens_to {l = l} {G = G} {S = S} f n mk ts d other go = by_test (sees mk ts) refl
   where
-    by_mark : (ts : List Token) (p : Pos) (us : List Token) → Marked mk ts p us → Ends n G S ts (and_then (opens_any n ts) (f n))
-    by_mark _ p us Marked.marked = opens_any_then {G = G} {S = S} f n (mark mk p) us (λ i h. go i h p us)
+    by_mark : (ts : List Token) (p : Pos) (us : List Token) → Marked mk ts p us → EndsAt l n G S ts (and_then (opens_any n ts) (f n))
+    by_mark _ p us Marked.marked = opens_any_to {G = G} {S = S} f n (mark mk p) us (d p) (λ i h. go i h p us)
 
-    by_test : (x : Bool) → sees mk ts ≡ x → Ends n G S ts (and_then (cond x (opens_any n ts) (Stuck ts)) (f n))
+    by_test : (x : Bool) → sees mk ts ≡ x → EndsAt l n G S ts (and_then (cond x (opens_any n ts) (Stuck ts)) (f n))
     by_test true h = let x = sees_is mk ts h in by_mark ts (x.0) (after ts) (x.1)
-    by_test false h = Ends.stuck [] (close mk) d (suc (n + k)) refl (refl, refl) (omega arith) (λ m rest l. one_more (λ m. S m (close mk ∷ (d ++ rest)) rest) (suc k) (λ m l. shut m rest (omega (arith, l))) m (omega (arith, l)) (omega (arith, l)))
+    by_test false h = other h
 
-pub opens_then : {B : Type 0} {G : ℕ → List Token → B → List Token → Type 0} {S : ℕ → List Token → List Token → Type 0} (f : ℕ → Pos → Parser B) (n : ℕ) (mk : Punct) (ts d : List Token) → ((m : ℕ) (rest : List Token) → S (suc m) (close mk ∷ (d ++ rest)) rest)
+-- where it isn't there some other text goes on
+pub opens_or : {B : Type 0} {l : List Token} {G : ℕ → List Token → B → List Token → Type 0} {S : ℕ → List Token → List Token → Type 0} (f : ℕ → Pos → Parser B) (n : ℕ) (mk : Punct) (ts : List Token) → (sees mk ts ≡ false → EndsAt l n G S ts (Stuck ts))
+    → ((i : ℕ) → n ≡ suc i → (p : Pos) (us : List Token) → Ends i (λ m vs c ws. G (suc m) (mark mk p ∷ vs) c ws) (λ m vs rest. S (suc m) (mark mk p ∷ vs) rest) us (f (suc i) p us)) → EndsAt l n G S ts (and_then (opens n mk ts) (f n))
+opens_or f n mk ts other go = opens_to f n mk ts (λ p. Deepens.nothing) other go
+
+-- where it is there
+pub opens_seen : {B : Type 0} {G : ℕ → List Token → B → List Token → Type 0} {S : ℕ → List Token → List Token → Type 0} (f : ℕ → Pos → Parser B) (n : ℕ) (mk : Punct) (ts : List Token) → sees mk ts ≡ true
     → ((i : ℕ) → n ≡ suc i → (p : Pos) (us : List Token) → Ends i (λ m vs c ws. G (suc m) (mark mk p ∷ vs) c ws) (λ m vs rest. S (suc m) (mark mk p ∷ vs) rest) us (f (suc i) p us)) → Ends n G S ts (and_then (opens n mk ts) (f n))
-opens_then f n mk ts d shut go = opens_from 0 f n mk ts d (λ m rest l. shut m rest) go
+opens_seen f n mk ts h go = opens_or f n mk ts (λ g. let e : true ≡ false = sym h ∙ g in cc) go
+
+-- where what stands before has to be followed by it; the text `d` behind it ends what it opens
+pub opens_then : {B : Type 0} {G : ℕ → List Token → B → List Token → Type 0} {S : ℕ → List Token → List Token → Type 0} (f : ℕ → Pos → Parser B) (n : ℕ) (mk : Punct) (ts d : List Token) → ((m : ℕ) (rest : List Token) → S (suc m) (close mk ∷ (d ++ rest)) rest)
+    → ((i : ℕ) → n ≡ suc i → (p : Pos) (us : List Token) → Ends i (λ m vs c ws. G (suc m) (mark mk p ∷ vs) c ws) (λ m vs rest. S (suc m) (mark mk p ∷ vs) rest) us (f (suc i) p us)) → EndsAt (close mk ∷ []) n G S ts (and_then (opens n mk ts) (f n))
+opens_then {S = S} f n mk ts d shut go = opens_or f n mk ts (λ h. waits (close mk ∷ []) (close mk) d d refl (refl, refl) (λ m rest l. one_more (λ m. S m (close mk ∷ (d ++ rest)) rest) 0 (λ m k. shut m rest) m (omega arith) (omega (arith, l)))) go
+
+-- the first of two
+pub opens_two : {B : Type 0} {G : ℕ → List Token → B → List Token → Type 0} {S : ℕ → List Token → List Token → Type 0} (f : ℕ → Pos → Parser B) (n : ℕ) (ts d : List Token) → ((m : ℕ) (rest : List Token) → 1 ≤ m → S (suc m) (close OpenParen ∷ (close OpenParen ∷ d ++ rest)) rest)
+    → ((i : ℕ) → n ≡ suc i → (p : Pos) (us : List Token) → EndsAt (close OpenParen ∷ []) i (λ m vs c ws. G (suc m) (mark OpenParen p ∷ vs) c ws) (λ m vs rest. S (suc m) (mark OpenParen p ∷ vs) rest) us (f (suc i) p us)) → EndsAt (close OpenParen ∷ close OpenParen ∷ []) n G S ts (and_then (opens n OpenParen ts) (f n))
+opens_two {S = S} f n ts d shut go = opens_to f n OpenParen ts (λ p. Deepens.bracket)
+    (λ h. waits (close OpenParen ∷ close OpenParen ∷ []) (close OpenParen) (close OpenParen ∷ d) d refl (refl, refl) (λ m rest l. one_more (λ m. S m (close OpenParen ∷ (close OpenParen ∷ d ++ rest)) rest) 2 (λ m k. shut m rest (omega (arith, k))) m (omega (arith, l)) (omega (arith, l)))) go
 
 -- a mark that opens one more where there is room for it
 pub opens_again : {B : Type 0} {n : ℕ} {G : ℕ → List Token → B → List Token → Type 0} {S : ℕ → List Token → List Token → Type 0} (i : ℕ) (mk : Punct) {f : Pos → Parser B} (ts d : List Token) → ((m : ℕ) (rest : List Token) → n ≤ m → S m (close mk ∷ (d ++ rest)) rest)
@@ -286,10 +382,10 @@ same_place c b ts us vs e = sym (ap pos_of e)
 
 pub placed_ends : {A : Type 0} {n : ℕ} (G : Pos → ℕ → List Token → A → List Token → Type 0) {S : ℕ → List Token → List Token → Type 0} (ts : List Token) (x : Read A) → ((a : A) (us : List Token) → x ≡ Got a us → G (pos_of ts) n ts a us → length us < length ts)
     → Ends n (λ m ss a vs. G (pos_of ts) m ss a vs) S ts x → Ends n (λ m ss a vs. G (pos_of ss) m ss a vs) S ts x
-placed_ends {n = n} G ts _ far (Ends.got {a} {us} [] e w) = let l : length us < length ts = far a us refl (subst (λ z. G (pos_of ts) n z a us) (sym e) (w n us (omega arith) (follows_same us))) in let k : length ts ≡ length us = ap length e in absurd (omega (arith, l, k))
-placed_ends {n = n} G ts _ far (Ends.got {a} {us} (c ∷ b) e w) = Ends.got (c ∷ b) e (λ m vs l o. subst (λ (p : Pos). G p m (c ∷ b ++ vs) a vs) (sym (same_place c b ts us vs e)) (w m vs l o))
-placed_ends G ts _ far (Ends.stuck b t tail least e o l w) = Ends.stuck b t tail least e o l w
-placed_ends G ts _ far Ends.deep = Ends.deep
+placed_ends {n = n} G ts _ far (EndsAt.got {a} {us} [] e w) = let l : length us < length ts = far a us refl (subst (λ z. G (pos_of ts) n z a us) (sym e) (w n us (omega arith) (follows_same us))) in let k : length ts ≡ length us = ap length e in absurd (omega (arith, l, k))
+placed_ends {n = n} G ts _ far (EndsAt.got {a} {us} (c ∷ b) e w) = EndsAt.got (c ∷ b) e (λ m vs l o. subst (λ (p : Pos). G p m (c ∷ b ++ vs) a vs) (sym (same_place c b ts us vs e)) (w m vs l o))
+placed_ends G ts _ far (EndsAt.stuck b t tail least e o l y w) = EndsAt.stuck b t tail least e o l y w
+placed_ends G ts _ far EndsAt.deep = EndsAt.deep
 
 -- ---- lists
 abbrev pub Front : {A : Type 0} → (ℕ → List Token → List A → List Token → Type 0) → ℕ → List Token → A → List Token → Type 0

@@ -29,6 +29,7 @@ use Rattle.sa_syntax.specs.Trees as tree
 use Rattle.sa_syntax.specs.Words.{Names, mark, key, word, named, is_type_name, compound_of, turn_of, is_label, begins_with_star, begins_with_label}
 use Rattle.sa_syntax.specs.Expressions.{Whole, Place', Steps, Specifiers', Declr', Bounds}
 use Rattle.sa_syntax.specs.Statements.{Init', Inits, InitDeclr', ArgValue', Args, Call', Simple', LocalDeclr', LocalDeclrs, Local', Directive', First', Condition', Next', Label'}
+use Rattle.sa_syntax.specs.Refusals.{takes_two, Deepens}
 use Rattle.sa_syntax.specs.Reading.{Parser, Got, Stuck, Deep, and_then, sees, opens, expect, variable, taken, name_at, key_at, mark_at, turns, pure, ◌>>=◌}
 use Rattle.sa_syntax.specs.ReadExpr.{begins_type}
 use Rattle.sa_syntax.specs.ReadStmt as read
@@ -36,7 +37,7 @@ use Rattle.sa_syntax.specs.ReadStmt.{takes, within, list}
 use Rattle.sa_syntax.proofs.StmtSound.{InBrackets}
 use Rattle.sa_syntax.proofs.Shorter.{place-shorter}
 use Rattle.sa_syntax.proofs.ClosingExpr.{spot, close, nought, letter, letter_declr, fresh, fresh-is, zero-whole}
-use Rattle.sa_syntax.proofs.EndsLemmas.{Ends, Some', Found, done, halts, ends_if, ends_reader, ends_map, seq, seq_with, seq_front, stepped, expect_then, expect_with, key_then, mark_then, seen_then, opens_then, opens_from, found_next, found_none, list_ends}
+use Rattle.sa_syntax.proofs.EndsLemmas.{Ends, Some', Found, done, halts, ends_if, ends_reader, ends_map, seq, seq_with, seq_front, stepped, expect_then, expect_with, key_then, mark_then, seen_then, opens_then, opens_seen, opens_two, key_to, EndsAt, found_next, found_none, list_ends}
 use Rattle.sa_syntax.proofs.EndsExpr as ends
 use Rattle.sa_syntax.proofs.EndsExpr.{zero_expr, deeper_ends}
 
@@ -68,15 +69,14 @@ inits_from_ends ns i one each (suc left) found ts h = seq_with (each ts) (close 
     (λ c. ends_map (λ r ws a zs go ss s. (x ∷ go.0, found_next found x (go.0) a (go.1), Inits.next_init s (go.2))) (λ r ws z go ss s. (x ∷ go.0, Inits.next_init s (go.1))) (inits_from_ends ns i one each left (found ++ x ∷ []) vs (less_by_one (mark m.Comma p) us vs ts left o l h)))))
     (λ g. expect_then m.CloseBrace us [] (λ r z l ss s. (x ∷ [], Inits.last_init s)) (λ q vs. done (λ r zs l f ss s. (x ∷ [], refl, Inits.last_init s)))))
 
-braces_ends : (ns : Names) (n : ℕ) (one : Parser Init) → ((i : ℕ) → n ≡ suc i → (ts : List Token) → Ends i (Init' ns) (Some' (Init' ns)) ts (one ts)) → (ts : List Token) → Ends n (Init' ns) (Some' (Init' ns)) ts (read.braces n one ts)
+braces_ends : (ns : Names) (n : ℕ) (one : Parser Init) → ((i : ℕ) → n ≡ suc i → (ts : List Token) → Ends i (Init' ns) (Some' (Init' ns)) ts (one ts)) → (ts : List Token) → sees m.OpenBrace ts ≡ true → Ends n (Init' ns) (Some' (Init' ns)) ts (read.braces n one ts)
 unfolding read.braces
-braces_ends ns n one each ts = opens_then (λ n p. (λ ts. read.inits_from one (turns ts) [] ts) >>= (λ is. pure (init.Braces p is))) n m.OpenBrace ts (nought ∷ close m.CloseBrace ∷ [])
-    (λ r z. (init.Braces spot (init.Value zero_expr ∷ []), Init'.braces (Inits.last_init (Init'.init_value (zero-whole ns r (close m.CloseBrace ∷ z))))))
+braces_ends ns n one each ts g = opens_seen (λ n p. (λ ts. read.inits_from one (turns ts) [] ts) >>= (λ is. pure (init.Braces p is))) n m.OpenBrace ts g
     (λ i h p us. seq (found_none (inits_from_ends ns i one (each i h) (turns us) [] us (omega arith))) [] (λ r ss z l s. (init.Braces p (s.0), Init'.braces (s.1))) (λ is vs. done (λ r zs l f ss s. Init'.braces s)))
 
 init_by_ends : (ns : Names) (n : ℕ) (one : Parser Init) → ((i : ℕ) → n ≡ suc i → (ts : List Token) → Ends i (Init' ns) (Some' (Init' ns)) ts (one ts)) → (ts : List Token) → Ends n (Init' ns) (Some' (Init' ns)) ts (read.init_by ns n one ts)
 unfolding read.init_by
-init_by_ends ns n one each ts = ends_if (sees m.OpenBrace ts) (λ h. braces_ends ns n one each ts)
+init_by_ends ns n one each ts = ends_if (sees m.OpenBrace ts) (λ h. braces_ends ns n one each ts h)
     (λ h. seq (expr_ends ns n ts) [] (λ r ss z l s. (init.Value (s.0), Init'.init_value (s.1))) (λ a us. done (λ r zs l f ss s. Init'.init_value s)))
 
 pub init_ends : (ns : Names) (n : ℕ) (ts : List Token) → Ends n (Init' ns) (Some' (Init' ns)) ts (read.init_at ns n ts)
@@ -116,8 +116,8 @@ unfolding read.args
 args_ends ns q n ts = ends_if (sees m.CloseParen ts) (λ h. seen_then m.CloseParen (λ us. Got [] us) ts h (λ p us e. done (λ r vs l f w at v. Call'.no_args v)))
     (λ h. ends_map (λ r us xs vs g w p v. Call'.args v g) (λ r us z s. (s.0, λ w p v. Call'.args v (s.1))) (found_none (args_from_ends ns n (turns ts) q [] ts (omega arith))))
 
-opened_call : (ns : Names) (n : ℕ) (w : List ℕ) (at : Pos) (us : List Token) → is_type_name ns w ≡ false → Ends n (λ r vs c ws. Call' ns r (word w at ∷ vs) c ws) (λ r vs z. Some' (Call' ns) r (word w at ∷ vs) z) us ((opens n m.OpenParen >>= (λ p. within (read.args ns p) n >>= (λ xs. pure (tree.call (named w at) xs)))) us)
-opened_call ns n w at us v = opens_then (λ n p. within (read.args ns p) n >>= (λ xs. pure (tree.call (named w at) xs))) n m.OpenParen us (close m.CloseParen ∷ []) (λ r z. (tree.call (named w at) [], Call'.no_args v))
+opened_call : (ns : Names) (n : ℕ) (w : List ℕ) (at : Pos) (us : List Token) → sees m.OpenParen us ≡ true → is_type_name ns w ≡ false → Ends n (λ r vs c ws. Call' ns r (word w at ∷ vs) c ws) (λ r vs z. Some' (Call' ns) r (word w at ∷ vs) z) us ((opens n m.OpenParen >>= (λ p. within (read.args ns p) n >>= (λ xs. pure (tree.call (named w at) xs)))) us)
+opened_call ns n w at us g v = opens_seen (λ n p. within (read.args ns p) n >>= (λ xs. pure (tree.call (named w at) xs))) n m.OpenParen us g
     (λ i h p vs. seq (args_ends ns p i vs) [] (λ r ss z l s. (tree.call (named w at) (s.0), s.1 w at v)) (λ xs ws. done (λ r zs l f ss s. s w at v)))
 
 call_named : (ns : Names) (n : ℕ) (v : Word) (p : Pos) (us : List Token) (b : Bool) → let t : Token = record { word = v; pos = p } in read.sees_call ns (t ∷ us) ≡ true → Ends n (Call' ns) (Some' (Call' ns)) (t ∷ us) (read.call ns n (t ∷ us))
@@ -127,7 +127,7 @@ call_named ns n (Name w) p us b h = by_test (is_type_name ns w) refl h
     by_test : (x : Bool) → is_type_name ns w ≡ x → read.is_some_and (cond x None (Some (named w p))) (sees m.OpenParen us) ≡ true
         → Ends n (Call' ns) (Some' (Call' ns)) (word w p ∷ us) (and_then (taken (cond x None (Some (named w p))) (word w p ∷ us)) (λ x. opens n m.OpenParen >>= (λ q. within (read.args ns q) n >>= (λ xs. pure (tree.call x xs)))))
     by_test true g h = cc
-    by_test false g h = stepped (word w p) (opened_call ns n w p us g)
+    by_test false g h = stepped (word w p) (opened_call ns n w p us h g)
 call_named ns n (Number v u l d) p us b h = cc
 call_named ns n (Key j) p us b h = cc
 call_named ns n (Mark j) p us b h = cc
@@ -216,12 +216,12 @@ module _ (ns : Names) (n : ℕ) where
 one_less : (k : ℕ) → suc k - 1 ≡ k
 one_less k = omega arith
 
-pub bare_ends : (ns : Names) (n : ℕ) (kw : Keyword) (x : Directive) → ((r : ℕ) (p q o s t : Pos) (us : List Token) → Directive' ns (suc (suc r)) (key kw p ∷ mark m.OpenParen q ∷ mark m.OpenParen o ∷ mark m.CloseParen s ∷ mark m.CloseParen t ∷ us) x us)
+pub bare_ends : (ns : Names) (n : ℕ) (kw : Keyword) (x : Directive) → takes_two kw ≡ true → ((r : ℕ) (p q o s t : Pos) (us : List Token) → Directive' ns (suc (suc r)) (key kw p ∷ mark m.OpenParen q ∷ mark m.OpenParen o ∷ mark m.CloseParen s ∷ mark m.CloseParen t ∷ us) x us)
     → (ts : List Token) → key_at ts ≡ Some kw → Ends n (Directive' ns) (Some' (Directive' ns)) ts (read.bare n x ts)
 unfolding read.bare read.double_bracket
-bare_ends ns n kw x make ts h = key_then kw ts h (λ p us.
-    opens_from 1 (λ n q. opens (n - 1) m.OpenParen >>= (λ r. expect m.CloseParen >>= (λ _. expect m.CloseParen >>= (λ _. pure x)))) n m.OpenParen us (close m.OpenParen ∷ close m.CloseParen ∷ close m.CloseParen ∷ []) (λ r z l. one_up r p z l)
-    (λ i g q vs. subst (λ k. Ends i (λ r vs c ws. Directive' ns (suc r) (key kw p ∷ mark m.OpenParen q ∷ vs) c ws) (λ r vs z. Some' (Directive' ns) (suc r) (key kw p ∷ mark m.OpenParen q ∷ vs) z) vs (and_then (opens k m.OpenParen vs) (λ r. expect m.CloseParen >>= (λ _. expect m.CloseParen >>= (λ _. pure x))))) (sym (one_less i))
+bare_ends ns n kw x two make ts h = key_to kw ts h (λ p. Deepens.directive two) (λ p us.
+    opens_two (λ n q. opens (n - 1) m.OpenParen >>= (λ r. expect m.CloseParen >>= (λ _. expect m.CloseParen >>= (λ _. pure x)))) n us (close m.CloseParen ∷ close m.CloseParen ∷ []) (λ r z l. one_up r p z l)
+    (λ i g q vs. subst (λ k. EndsAt (close m.OpenParen ∷ []) i (λ r vs c ws. Directive' ns (suc r) (key kw p ∷ mark m.OpenParen q ∷ vs) c ws) (λ r vs z. Some' (Directive' ns) (suc r) (key kw p ∷ mark m.OpenParen q ∷ vs) z) vs (and_then (opens k m.OpenParen vs) (λ r. expect m.CloseParen >>= (λ _. expect m.CloseParen >>= (λ _. pure x))))) (sym (one_less i))
     (opens_then (λ i r. expect m.CloseParen >>= (λ _. expect m.CloseParen >>= (λ _. pure x))) i m.OpenParen vs (close m.CloseParen ∷ close m.CloseParen ∷ []) (λ r z. (x, make r p q spot spot spot z)) (λ j e o ws.
     expect_then m.CloseParen ws (close m.CloseParen ∷ []) (λ r z l. (x, make r p q o spot spot z)) (λ s xs.
     expect_then m.CloseParen xs [] (λ r z l. (x, make r p q o s spot z)) (λ t ys. done (λ r zs l f. make r p q o s t zs)))))))
@@ -230,12 +230,12 @@ bare_ends ns n kw x make ts h = key_then kw ts h (λ p us.
     one_up zero p z l = absurd (omega (arith, l))
     one_up (suc r) p z l = (x, make r p spot spot spot spot z)
 
-pub with_expr_ends : (ns : Names) (n : ℕ) (kw : Keyword) (f : Expr → Directive) → ((r : ℕ) (p q o s t : Pos) (ts us : List Token) (a : Expr) → Whole ns r ts a (mark m.CloseParen s ∷ mark m.CloseParen t ∷ us) → Directive' ns (suc (suc r)) (key kw p ∷ mark m.OpenParen q ∷ mark m.OpenParen o ∷ ts) (f a) us)
+pub with_expr_ends : (ns : Names) (n : ℕ) (kw : Keyword) (f : Expr → Directive) → takes_two kw ≡ true → ((r : ℕ) (p q o s t : Pos) (ts us : List Token) (a : Expr) → Whole ns r ts a (mark m.CloseParen s ∷ mark m.CloseParen t ∷ us) → Directive' ns (suc (suc r)) (key kw p ∷ mark m.OpenParen q ∷ mark m.OpenParen o ∷ ts) (f a) us)
     → (ts : List Token) → key_at ts ≡ Some kw → Ends n (Directive' ns) (Some' (Directive' ns)) ts (read.with_expr ns n f ts)
 unfolding read.with_expr read.double_bracket
-with_expr_ends ns n kw f make ts h = seq {F = λ r ts a us. Directive' ns r ts (f a) us} {E = λ r ts z. (a : Expr) × Directive' ns r ts (f a) z} (key_then kw ts h (λ p us.
-    opens_from 1 (λ n q. opens (n - 1) m.OpenParen >>= (λ r. within (within (λ n. read.expr ns n)) n >>= (λ a. expect m.CloseParen >>= (λ _. expect m.CloseParen >>= (λ _. pure a))))) n m.OpenParen us (close m.OpenParen ∷ nought ∷ close m.CloseParen ∷ close m.CloseParen ∷ []) (λ r z l. one_up r p z l)
-    (λ i g q vs. subst (λ k. Ends i (λ r vs a ws. Directive' ns (suc r) (key kw p ∷ mark m.OpenParen q ∷ vs) (f a) ws) (λ r vs z. (a : Expr) × Directive' ns (suc r) (key kw p ∷ mark m.OpenParen q ∷ vs) (f a) z) vs (and_then (opens k m.OpenParen vs) (λ r. within (λ n. read.expr ns n) i >>= (λ a. expect m.CloseParen >>= (λ _. expect m.CloseParen >>= (λ _. pure a)))))) (sym (one_less i))
+with_expr_ends ns n kw f two make ts h = seq {F = λ r ts a us. Directive' ns r ts (f a) us} {E = λ r ts z. (a : Expr) × Directive' ns r ts (f a) z} (key_to kw ts h (λ p. Deepens.directive two) (λ p us.
+    opens_two (λ n q. opens (n - 1) m.OpenParen >>= (λ r. within (within (λ n. read.expr ns n)) n >>= (λ a. expect m.CloseParen >>= (λ _. expect m.CloseParen >>= (λ _. pure a))))) n us (nought ∷ close m.CloseParen ∷ close m.CloseParen ∷ []) (λ r z l. one_up r p z l)
+    (λ i g q vs. subst (λ k. EndsAt (close m.OpenParen ∷ []) i (λ r vs a ws. Directive' ns (suc r) (key kw p ∷ mark m.OpenParen q ∷ vs) (f a) ws) (λ r vs z. (a : Expr) × Directive' ns (suc r) (key kw p ∷ mark m.OpenParen q ∷ vs) (f a) z) vs (and_then (opens k m.OpenParen vs) (λ r. within (λ n. read.expr ns n) i >>= (λ a. expect m.CloseParen >>= (λ _. expect m.CloseParen >>= (λ _. pure a)))))) (sym (one_less i))
     (opens_then (λ i r. within (λ n. read.expr ns n) i >>= (λ a. expect m.CloseParen >>= (λ _. expect m.CloseParen >>= (λ _. pure a)))) i m.OpenParen vs (nought ∷ close m.CloseParen ∷ close m.CloseParen ∷ []) (λ r z. (zero_expr, make r p q spot spot spot _ z zero_expr (zero-whole ns r (close m.CloseParen ∷ close m.CloseParen ∷ z)))) (λ j e o ws.
     seq (expr_ends ns j ws) (close m.CloseParen ∷ close m.CloseParen ∷ []) (λ r ss z l s. (s.0, make r p q o spot spot ss z (s.0) (s.1))) (λ a xs.
     expect_then m.CloseParen xs (close m.CloseParen ∷ []) (λ r z l ss s. (a, make r p q o spot spot ss z a s)) (λ c ys.
@@ -272,7 +272,7 @@ label_at [] h = cc
 label_at (t ∷ us) h = label_word t.word t.pos us h
 
 module _ (ns : Names) (n : ℕ) where
-  pub condition_ends : (ts : List Token) → Ends n (InBrackets ns) (Some' (InBrackets ns)) ts (read.condition ns n ts)
+  pub condition_ends : (ts : List Token) → EndsAt (close m.OpenParen ∷ []) n (InBrackets ns) (Some' (InBrackets ns)) ts (read.condition ns n ts)
   unfolding read.condition
   condition_ends ts = opens_then (λ n p. within (read.expr ns) n >>= (λ a. expect m.CloseParen >>= (λ q. pure a))) n m.OpenParen ts (nought ∷ close m.CloseParen ∷ []) (λ r z. (zero_expr, InBrackets.in_brackets (zero-whole ns r (close m.CloseParen ∷ z))))
       (λ i h p us. seq (expr_ends ns i us) (close m.CloseParen ∷ []) (λ r ss z l s. (s.0, InBrackets.in_brackets (s.1))) (λ a vs.

@@ -24,18 +24,18 @@ use Rattle.sa_syntax.specs.Words.{Names, mark, key, word, named, is_void, is_clo
 use Rattle.sa_syntax.specs.Expressions.{Specifiers', Qualifiers, ScalarWords, Base', Struct', Declr', Bounds}
 use Rattle.sa_syntax.specs.Statements.{all_named, InitDeclr', InitDeclrs, Param', ParamList, Params', Starred, Nameable, Outermost, Units, Tree}
 use Rattle.sa_syntax.specs.Reading.{Read, Got, Stuck, Deep, and_then, sees, after, expect, name_at, key_at, turns, ◌>>=◌}
-use Rattle.sa_syntax.specs.Refusals.{Begins, BeginsNone, HasNoTree, FailsAt}
+use Rattle.sa_syntax.specs.Refusals.{BeginsNone, HasNoTree}
 use Rattle.sa_syntax.specs.ReadExpr.{is_some}
 use Rattle.sa_syntax.specs.ReadStmt as read
 use Rattle.sa_syntax.specs.ReadStmt.{takes, within, list}
-use Rattle.sa_syntax.proofs.StmtRoom.{sources_agree}
+use Rattle.sa_syntax.proofs.NearStmt.{sources_agree}
 use Rattle.sa_syntax.proofs.StmtShorter.{param-shorter}
 use Rattle.sa_syntax.proofs.UnitSound.{bare_struct}
 use Rattle.sa_syntax.proofs.UnitComplete.{source-complete}
 use Rattle.sa_syntax.proofs.DeepLemmas.{Shrinks, Local, shorter}
 use Rattle.sa_syntax.proofs.DeepUnit as fine
 use Rattle.sa_syntax.proofs.ClosingExpr.{spot, close, letter, letter_declr}
-use Rattle.sa_syntax.proofs.EndsLemmas.{Ends, Some', done, halts, ends_if, ends_map, seq, seq_with, seq_front, expect_then, name_then, key_then, seen_then, opens_then, opens_again, list_ends, placed_ends}
+use Rattle.sa_syntax.proofs.EndsLemmas.{Ends, Some', done, halts, ends_if, ends_map, seq, seq_with, seq_front, expect_then, name_then, key_then, seen_then, opens_or, opens_again, EndsAt, list_ends, placed_ends}
 use Rattle.sa_syntax.proofs.EndsExpr.{both_true, first_word, rest_of}
 use Rattle.sa_syntax.proofs.EndsStmt as ends
 use Rattle.sa_syntax.proofs.EndsBodies.{outermost_ends}
@@ -127,7 +127,7 @@ params_or ns r ss ps us i = by_test (is_void_alone ss) refl
     by_test false h = (given.List ps, Params'.list i h)
 
 void_ends : (ns : Names) (n : ℕ) (ts : List Token) → IsVoid ts → Ends n (Params' ns) (Some' (Params' ns)) ts (Got given.Void (after (after ts)))
-void_ends ns n _ (IsVoid.void_close {p} {q} {rest}) = Ends.got (key k.Void p ∷ mark m.CloseParen q ∷ []) refl (λ r vs l f. Params'.void)
+void_ends ns n _ (IsVoid.void_close {p} {q} {rest}) = EndsAt.got (key k.Void p ∷ mark m.CloseParen q ∷ []) refl (λ r vs l f. Params'.void)
 
 params_ends : (ns : Names) (n : ℕ) (ts : List Token) → Ends n (Params' ns) (Some' (Params' ns)) ts (read.params ns n ts)
 unfolding read.params
@@ -163,7 +163,7 @@ module _ (ns : Names) (n : ℕ) where
   function_ends : (t : Specifiers) (ts : List Token) → Ends n (Typed ns t) (SomeTyped ns t) ts (read.function ns n t ts)
   unfolding read.function
   function_ends t ts = name_then _ ts (close m.Semicolon ∷ []) (λ r z l ss i. (top.Global t (tree.init_declr letter_declr start.Nothing ∷ []), λ is go. Units.global i (InitDeclrs.last_init_declr (InitDeclr'.plain (Declr'.declr Bounds.no_bound))) go)) (λ w p us.
-      opens_then (λ n _. within (read.params ns) n >>= (λ ps. read.ends ns n t (named w p) ps)) n m.OpenParen us (close m.CloseParen ∷ close m.Semicolon ∷ []) (λ r z ss i. (top.Proto t (named w p) given.Empty, λ is go. Units.proto i Params'.empty go)) (λ i h q vs.
+      opens_or (λ n _. within (read.params ns) n >>= (λ ps. read.ends ns n t (named w p) ps)) n m.OpenParen us (λ g. halts (close m.Semicolon) [] (refl, refl) (λ r z l ss i. (top.Global t (tree.init_declr (tree.declr (named w p) []) start.Nothing ∷ []), λ is go. Units.global i (InitDeclrs.last_init_declr (InitDeclr'.plain (Declr'.declr Bounds.no_bound))) go))) (λ i h q vs.
       seq (params_ends ns i vs) (close m.Semicolon ∷ []) (λ r xs z l e ss c. (top.Proto t (named w p) (e.0), λ is go. Units.proto c (e.1) go)) (λ ps ws. proto_or_ends i t w p q ps ws)))
 
   global_ends : (t : Specifiers) (ts : List Token) → Ends n (Typed ns t) (SomeTyped ns t) ts (read.global ns n t ts)
@@ -216,7 +216,7 @@ abbrev Anything : ℕ → List Token → List Item → List Token → Type 0
 Anything r ts is us = Unit {0}
 
 -- a whole source, where nothing follows
-abbrev Whole : Names → ℕ → List Token → List Token → Type 0
+abbrev pub Whole : Names → ℕ → List Token → List Token → Type 0
 Whole ns r ts rest = rest ≡ [] → (is : List Item) × Units ns r ts is
 
 items_ends : (n left : ℕ) (ns : Names) (found : List Item) (ts : List Token) → length ts < left → Ends n Anything (Whole ns) ts (read.items_from n left ns found ts)
@@ -227,7 +227,7 @@ items_ends n (suc left) ns found (t ∷ ts) h = seq_with (an_item_ends ns n (t �
     let c = shorter (subst (λ z. Shrinks 1 (t ∷ ts) z) e ((fine.an_item_fine ns n).shrinks (t ∷ ts))) in
     ends_map (λ r vs a ws g ss j. tt) (λ r vs z go ss j g. let y = go g in (x ∷ y.0, j (y.0) (y.1))) (items_ends n left (read.names_after ns x) (found ++ x ∷ []) us (omega (arith, c, h))))
 
-source_ends : (n : ℕ) (ts : List Token) → Ends n (λ r ts u us. Unit {0}) (Whole []) ts (read.source n ts)
+pub source_ends : (n : ℕ) (ts : List Token) → Ends n (λ r ts u us. Unit {0}) (Whole []) ts (read.source n ts)
 unfolding read.source
 source_ends n ts = seq (items_ends n (turns ts) [] [] ts (omega arith)) [] (λ r ss z l g. g) (λ is us. done (λ r zs l f ss j. tt))
 
@@ -260,28 +260,8 @@ alike _ _ (Local.gone_deep h) e = cc
 alike {t = t} {s = s} _ _ (Local.stuck b) e = (b ++ t ∷ s, refl)
 alike {t = t} {r = r} (Stuck us) _ (Local.gone_stuck h) e = let g : us ≡ t ∷ r = cc in let l : length us ≡ length (t ∷ r) = ap length g in absurd (omega (arith, h, l))
 
-begins_none : (n : ℕ) (b : List Token) (t : Token) (r : List Token) → read.source n (b ++ t ∷ r) ≡ Stuck (t ∷ r) → BeginsNone (b ++ t ∷ [])
+pub begins_none : (n : ℕ) (b : List Token) (t : Token) (r : List Token) → read.source n (b ++ t ∷ r) ≡ Stuck (t ∷ r) → BeginsNone (b ++ t ∷ [])
 begins_none n b t r e more tail u x =
     let same : (b ++ t ∷ []) ++ tail ≡ b ++ t ∷ tail = append_assoc b (t ∷ []) tail in
     let k = alike (read.source n (b ++ t ∷ r)) (read.source n (b ++ t ∷ tail)) ((fine.source_fine n).local b t r tail) e in
     stuck_none n (b ++ t ∷ tail) (k.0) (k.1) more u (subst (λ z. Tree more z u) same x)
-
-append_none : (xs : List Token) → xs ++ [] ≡ xs
-append_none [] = refl
-append_none (x ∷ xs) = ap (λ z. x ∷ z) (append_none xs)
-
-told_at : (n : ℕ) (ts b us : List Token) → ts ≡ b ++ us → read.source n ts ≡ Stuck us → Begins b → FailsAt ts us
-told_at n ts b [] e f g = record { before = b; is = e; begins = g; refused = stuck_none n b [] (subst (λ z. read.source n z ≡ Stuck []) (e ∙ append_none b) f) }
-told_at n ts b (t ∷ r) e f g = record { before = b; is = e; begins = g; refused = begins_none n b t r (subst (λ z. read.source n z ≡ Stuck (t ∷ r)) e f) }
-
-told_by : (n : ℕ) (ts us : List Token) (x : Read Source) → read.source n ts ≡ x → x ≡ Stuck us → Ends n (λ r ts u us. Unit {0}) (Whole []) ts x → FailsAt ts us
-told_by n ts us _ f e (Ends.got b h w) = cc
-told_by n ts us _ f e Ends.deep = cc
-told_by n ts us _ f e (Ends.stuck {us = vs} b t tail least h o l w) =
-    let same : vs ≡ us = cc in
-    let g : read.source n ts ≡ Stuck us = f ∙ e in
-    let v = w least [] (omega arith) refl in
-    told_at n ts b us (h ∙ ap (λ z. b ++ z) same) g (least, t ∷ (tail ++ []), tree.source (v.0), v.1)
-
-pub told_place : (n : ℕ) (ts us : List Token) → read.source n ts ≡ Stuck us → FailsAt ts us
-told_place n ts us e = told_by n ts us (read.source n ts) refl e (source_ends n ts)

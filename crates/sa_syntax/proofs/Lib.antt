@@ -1,10 +1,11 @@
 pub mod ReadingLemmas
 pub mod ExprSound
 pub mod RoomLemmas
-pub mod ExprRoom
+pub mod NearLemmas
+pub mod NearExpr
+pub mod NearStmt
 pub mod StmtSound
 pub mod UnitSound
-pub mod StmtRoom
 pub mod Shorter
 pub mod Front
 pub mod ReadSteps
@@ -30,4 +31,5 @@ pub mod EndsExpr
 pub mod EndsStmt
 pub mod EndsBodies
 pub mod EndsUnit
+pub mod Nesting
 pub mod Samples

@@ -2,9 +2,7 @@
 use Rattle.std.proofs.Common.{◌≡◌, ℕ, zero, suc, ◌≤◌, List, [], ◌∷◌, ◌++◌, Bool, true, false, cond, refl, arith, ◌⊎◌, inl, inr}
 use Rattle.sa_tokens.specs.declared.punct.Punct.{Punct}
 use Rattle.sa_tokens.specs.declared.token.Token.{Token}
-use Rattle.sa_tokens.specs.declared.punct.Punct.TheVariants as m
-use Rattle.sa_syntax.specs.ReadStmt.{within, list_from, list}
-use Rattle.sa_syntax.specs.Reading.{Read, Got, Stuck, Deep, Parser, and_then, sees, after, opens_any, opens, turns, while_from, many}
+use Rattle.sa_syntax.specs.Reading.{Read, Got, Stuck, Deep, Parser, and_then, sees, opens_any, opens, turns, while_from, many}
 
 -- the same answer, or out of room
 pub data Less {A : Type 0} : Read A → Read A → Type 0 where
@@ -46,21 +44,3 @@ less_many goes item wide one ts = less_while goes item wide one (turns ts) [] ts
 pub agree : {A : Type 0} {r s : Read A} → Less r s → ((vs : List Token) × (r ≡ Deep vs)) ⊎ (r ≡ s)
 agree (Less.out {us}) = inl (us, refl)
 agree Less.same = inr refl
-
--- a test between readers
-pub less_if_reader : {A : Type 0} (p q : Parser A) (p' q' : Parser A) (b : Bool) (ts : List Token) → Less (p ts) (p' ts) → Less (q ts) (q' ts) → Less (cond b p q ts) (cond b p' q' ts)
-less_if_reader p q p' q' true ts one other = one
-less_if_reader p q p' q' false ts one other = other
-
-pub less_within : {A : Type 0} (p : ℕ → Parser A) → ((n more : ℕ) → n ≤ more → (ts : List Token) → Less (p n ts) (p more ts)) → (n more : ℕ) → n ≤ more → (ts : List Token) → Less (within p n ts) (within p more ts)
-less_within p one zero more h ts = Less.out
-less_within p one (suc n) zero h ts = absurd (omega arith)
-less_within p one (suc n) (suc more) h ts = one n more (omega arith) ts
-
-less_list_from : {A : Type 0} (close : Punct) (one wide : Parser A) → ((ts : List Token) → Less (one ts) (wide ts)) → (n : ℕ) (found : List A) (ts : List Token) → Less (list_from close one n found ts) (list_from close wide n found ts)
-unfolding list_from
-less_list_from close one wide each zero found ts = Less.same
-less_list_from close one wide each (suc n) found ts = less_then (each ts) (λ x us. less_if (sees m.Comma us) (less_list_from close one wide each n (found ++ x ∷ []) (after us)) Less.same)
-
-pub less_list : {A : Type 0} (close : Punct) (one wide : Parser A) → ((ts : List Token) → Less (one ts) (wide ts)) → (ts : List Token) → Less (list close one ts) (list close wide ts)
-less_list close one wide each ts = less_list_from close one wide each (turns ts) [] ts

@@ -41,7 +41,7 @@ use Rattle.sa_syntax.proofs.StmtFront.{equal-no_call, comma-no_call, semicolon-n
 use Rattle.sa_syntax.proofs.StmtSteps.{Listed, listed-last, listed-next, listed-reads}
 use Rattle.sa_syntax.proofs.PartsComplete.{init_declrs-complete}
 use Rattle.sa_syntax.proofs.BodySteps.{items-read}
-use Rattle.sa_syntax.proofs.StmtRoom.{sources_agree}
+use Rattle.sa_syntax.proofs.NearStmt.{sources_agree}
 use Rattle.sa_syntax.proofs.StmtComplete.{outermost-complete}
 
 -- ---- parameters

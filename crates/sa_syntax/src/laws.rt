@@ -60,12 +60,13 @@ pub fn has_one_tree()
     ensures { HasOneTree }
 {}
 
-/// A source that is refused for depth is too deep at the token that is told.
+/// A source that is refused for depth is too deep at the token that is told, and at none before it.
 pub fn tells_depth()
     ensures { TellsDepth }
 {}
 
-/// A source that is refused otherwise is refused at the first token with which no text begins, or at its end.
+/// A source that is refused otherwise is refused at the first token with which no text begins, or at its end, and is too deep
+/// at no token before.
 pub fn tells_place()
     ensures { TellsPlace }
 {}

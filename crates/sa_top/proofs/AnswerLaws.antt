@@ -1,5 +1,5 @@
 -- A source has one answer.
-use Rattle.std.proofs.Common.{◌≡◌, ℕ, ◌<◌, length, List, [], ◌∷◌, ◌++◌, append_assoc, refl, ap, sym, subst, ◌∙◌, arith, inl, inr, ◌⊎◌, ⊎_elim}
+use Rattle.std.proofs.Common.{◌≡◌, ℕ, ◌<◌, length, List, [], ◌∷◌, ◌++◌, append_assoc, refl, ap, sym, subst, ◌∙◌, arith, inl, inr, ◌⊎◌}
 use Rattle.sa_base.specs.declared.pos.Pos.{Pos}
 use Rattle.sa_base.specs.declared.status.Status.{Status}
 use Rattle.sa_base.specs.declared.status.Status.TheVariants as s
@@ -14,14 +14,14 @@ use Rattle.sa_tokens.specs.Lexed.{IsLexed, IsRefused, HasTooMany, end_pos}
 use Rattle.sa_tokens.proofs.ReadingLemmas.{each_has_one_answer}
 use Rattle.sa_syntax.specs.declared.unit.Unit.{Unit as Source}
 use Rattle.sa_syntax.specs.Statements.{Tree}
-use Rattle.sa_syntax.specs.Refusals.{IsSource, HasNoTree, Begins, BeginsNone, IsRefused as IsStopped, FailsAt, place_at, most_open}
+use Rattle.sa_syntax.specs.Refusals.{IsSource, HasNoTree, Begins, BeginsNone, IsRefused as IsStopped, Deepens, FailsAt, IsTooDeep, place_at, most_open}
 use Rattle.sa_syntax.proofs.UnitComplete.{one-tree}
 use Rattle.sa_parser.specs.declared.fault.ParseFault.TheVariants.{Syntax, TooDeep}
 use Rattle.sa_parser.specs.Faults.{IsFault}
 use Rattle.sa_base.specs.declared.refusal.Refusal.{Refusal}
 use Rattle.sa_typed.specs.declared.program.Program.{Program}
 use Rattle.sa_top.specs.Accepted.{Reading, Unbuilt, Refused, TooLarge, Built, reading_of, IsRead, IsAccepted, OneReading}
-use Rattle.sa_top.specs.Answer.{HasNoTokens, bad_byte, bad_number, open_comment, directive, too_many, IsUnparsed, no_tree, too_deep, IsWithin, SourceAnswer, too_long, unlexed, unparsed, unbuilt, refused, too_large, report, report_status, report_of, IsErrorOrDeep, error_first, deep_first, OneAnswer}
+use Rattle.sa_top.specs.Answer.{HasNoTokens, bad_byte, bad_number, open_comment, directive, too_many, IsUnparsed, no_tree, too_deep, IsWithin, SourceAnswer, too_long, unlexed, unparsed, unbuilt, refused, too_large, report, report_status, report_of, OneAnswer}
 use Rattle.sa_top.specs.Report.{refused_text, limit_text}
 
 -- ---- what a fault of the parser excludes
@@ -29,7 +29,7 @@ append_none : (xs : List Token) → xs ++ [] ≡ xs
 append_none [] = refl
 append_none (x ∷ xs) = ap (λ z. x ∷ z) (append_none xs)
 
-no-tree : (ts rest : List Token) → FailsAt ts rest → HasNoTree ts
+no-tree : (ts rest : List Token) → FailsAt most_open ts rest → HasNoTree ts
 no-tree ts [] f n u k = f.refused n u (subst (λ z. Tree n z u) (f.is ∙ append_none f.before) k)
 no-tree ts (t ∷ rest) f n u k = f.refused n rest u (subst (λ z. Tree n z u) (f.is ∙ sym (append_assoc f.before (t ∷ []) rest)) k)
 
@@ -45,17 +45,17 @@ longer b t us d vs g none =
 
 -- of two fronts of one text one is the other and more
 data Fronts (b c us vs : List Token) : Type 0 where
-  alike : us ≡ vs → Fronts b c us vs
+  alike : b ≡ c → us ≡ vs → Fronts b c us vs
   first_more : (t : Token) (d : List Token) → b ≡ c ++ t ∷ d → vs ≡ t ∷ (d ++ us) → Fronts b c us vs
   second_more : (t : Token) (d : List Token) → c ≡ b ++ t ∷ d → us ≡ t ∷ (d ++ vs) → Fronts b c us vs
 
 next_fronts : (x : Token) (b c us vs : List Token) → Fronts b c us vs → Fronts (x ∷ b) (x ∷ c) us vs
-next_fronts x b c us vs (Fronts.alike e) = Fronts.alike e
+next_fronts x b c us vs (Fronts.alike e f) = Fronts.alike (ap (λ z. x ∷ z) e) f
 next_fronts x b c us vs (Fronts.first_more t d e f) = Fronts.first_more t d (ap (λ z. x ∷ z) e) f
 next_fronts x b c us vs (Fronts.second_more t d e f) = Fronts.second_more t d (ap (λ z. x ∷ z) e) f
 
 fronts : (b c us vs : List Token) → b ++ us ≡ c ++ vs → Fronts b c us vs
-fronts [] [] us vs e = Fronts.alike e
+fronts [] [] us vs e = Fronts.alike refl e
 fronts [] (t ∷ c) us vs e = Fronts.second_more t c refl e
 fronts (t ∷ b) [] us vs e = Fronts.first_more t b refl (sym e)
 fronts (x ∷ b) (y ∷ c) us vs e =
@@ -67,8 +67,8 @@ refused-longer : (b : List Token) (t : Token) (d us rest : List Token) → rest 
 refused-longer b t d us [] e g h = cc
 refused-longer b t d us (x ∷ rest) e g h = let same : x ≡ t = cc in longer b t us d rest g (subst (λ z. BeginsNone (b ++ z ∷ [])) same h)
 
-place-same : (ts us vs : List Token) (f : FailsAt ts us) (g : FailsAt ts vs) → Fronts f.before g.before us vs → us ≡ vs
-place-same ts us vs f g (Fronts.alike e) = e
+place-same : (ts us vs : List Token) (f : FailsAt most_open ts us) (g : FailsAt most_open ts vs) → Fronts f.before g.before us vs → us ≡ vs
+place-same ts us vs f g (Fronts.alike e h) = h
 place-same ts us vs f g (Fronts.first_more t d e h) = absurd (refused-longer g.before t d us vs h (subst Begins e f.begins) g.refused)
 place-same ts us vs f g (Fronts.second_more t d e h) = absurd (refused-longer f.before t d vs us h (subst Begins e g.begins) f.refused)
 
@@ -80,7 +80,22 @@ error-same ts end p q h k =
 deep-no_source : (ts : List Token) (end p : Pos) (u : Source) → IsFault ts end (TooDeep p) → IsSource ts u → ⊥
 deep-no_source ts end p u h k =
     let d = h.0 in
-    d.none d.after u (subst (λ (us : List Token). IsSource us u) (d.is ∙ sym (append_assoc d.before (d.token ∷ []) d.after)) k)
+    d.deep (record { deeper = []; deepens = Deepens.nothing; tail = d.after; unit = u; tree = subst (λ (us : List Token). IsSource us u) d.is k })
+
+-- ---- a syntax error and the limit of nesting exclude one another
+meet : (ts rest : List Token) (f : FailsAt most_open ts rest) (d : IsTooDeep ts) → Fronts f.before d.before rest (d.token ∷ d.after) → ⊥
+meet ts rest f d (Fronts.alike e g) = refused-longer f.before d.token [] d.after rest g (subst (λ z. Begins (z ++ d.token ∷ [])) (sym e) d.begins) f.refused
+-- more is open at a token before the one that is refused
+meet ts rest f d (Fronts.first_more t x e g) = let same : d.token ≡ t = cc in d.deep (f.within d.before d.token x (e ∙ ap (λ (z : Token). d.before ++ z ∷ x) (sym same)))
+-- no text begins with the tokens up to one before that
+meet ts rest f d (Fronts.second_more t x e g) =
+    refused-longer f.before t (x ++ d.token ∷ []) d.after rest (g ∙ ap (λ z. t ∷ z) (sym (append_assoc x (d.token ∷ []) d.after)))
+    (subst Begins (ap (λ z. z ++ d.token ∷ []) e ∙ append_assoc f.before (t ∷ x) (d.token ∷ [])) d.begins) f.refused
+
+error-not_deep : (ts : List Token) (end p q : Pos) → IsFault ts end (Syntax p) → IsFault ts end (TooDeep q) → ⊥
+error-not_deep ts end p q h k =
+    let d = k.0 in
+    meet ts h.rest h.fails d (fronts h.fails.before d.before h.rest (d.token ∷ d.after) (sym h.fails.is ∙ d.is))
 
 -- ---- refusals by the tokens
 abbrev fault_text : TokenFault → List ℕ
@@ -192,30 +207,26 @@ way source _ _ (too_large w a) = by_reading w (record { reading = TooLarge; read
 way source _ _ (report p w a) = by_reading w (record { reading = Built p; read = a; gives = refl; says = refl })
 
 -- ---- one answer
-One : List ℕ → (status other : Status) (text otherwise : List ℕ) → Type 0
-One source status other text otherwise = ((status ≡ other) × (text ≡ otherwise)) ⊎ IsErrorOrDeep source status other text otherwise
+error-or_deep : (source : List ℕ) (ts us : List Token) (p q : Pos) → IsLexed source ts → IsLexed source us → IsFault ts (end_pos source) (Syntax p) → IsFault us (end_pos source) (TooDeep q) → ⊥
+error-or_deep source ts us p q l o h k =
+    let same : ts ≡ us = (each_has_one_answer source).same_tokens ts us l o in
+    error-not_deep us (end_pos source) p q (subst (λ z. IsFault z (end_pos source) (Syntax p)) same h) k
 
-unparsed-meet : (source : List ℕ) (status other : Status) (text otherwise : List ℕ) → IsUnparsed source status text → IsUnparsed source other otherwise → One source status other text otherwise
-unfolding One
+unparsed-meet : (source : List ℕ) (status other : Status) (text otherwise : List ℕ) → IsUnparsed source status text → IsUnparsed source other otherwise → (status ≡ other) × (text ≡ otherwise)
 unparsed-meet source _ _ _ _ (no_tree ts p l h) (no_tree us q o k) =
     let same : ts ≡ us = (each_has_one_answer source).same_tokens ts us l o in
-    inl (refl, ap (refused_text code.Syntax) (error-same us (end_pos source) p q (subst (λ z. IsFault z (end_pos source) (Syntax p)) same h) k))
-unparsed-meet source _ _ _ _ (no_tree ts p l h) (too_deep us q o k) = inr (error_first p (no_tree ts p l h) (too_deep us q o k))
-unparsed-meet source _ _ _ _ (too_deep ts p l h) (no_tree us q o k) = inr (deep_first q (too_deep ts p l h) (no_tree us q o k))
-unparsed-meet source _ _ _ _ (too_deep ts p l h) (too_deep us q o k) = inl (refl, refl)
+    (refl, ap (refused_text code.Syntax) (error-same us (end_pos source) p q (subst (λ z. IsFault z (end_pos source) (Syntax p)) same h) k))
+unparsed-meet source _ _ _ _ (no_tree ts p l h) (too_deep us q o k) = absurd (error-or_deep source ts us p q l o h k)
+unparsed-meet source _ _ _ _ (too_deep ts p l h) (no_tree us q o k) = absurd (error-or_deep source us ts q p o l k h)
+unparsed-meet source _ _ _ _ (too_deep ts p l h) (too_deep us q o k) = (refl, refl)
 
-unparsed-first : (source : List ℕ) (status other : Status) (text otherwise : List ℕ) → IsErrorOrDeep source status other text otherwise → IsUnparsed source status text
-unparsed-first source _ _ _ _ (error_first p h k) = h
-unparsed-first source _ _ _ _ (deep_first p h k) = h
-
-ways_meet : (source : List ℕ) (status other : Status) (text otherwise : List ℕ) → Way source status text → Way source other otherwise → One source status other text otherwise
-unfolding One
-ways_meet source status other text otherwise (by_length h) (by_length k) = inl (h.gives ∙ sym k.gives, h.says ∙ sym k.says)
+ways_meet : (source : List ℕ) (status other : Status) (text otherwise : List ℕ) → Way source status text → Way source other otherwise → (status ≡ other) × (text ≡ otherwise)
+ways_meet source status other text otherwise (by_length h) (by_length k) = (h.gives ∙ sym k.gives, h.says ∙ sym k.says)
 ways_meet source status other text otherwise (by_length h) (by_tokens w a) = let l = h.long in absurd (omega (arith, l, w))
 ways_meet source status other text otherwise (by_length h) (by_tree w a) = let l = h.long in absurd (omega (arith, l, w))
 ways_meet source status other text otherwise (by_length h) (by_reading w a) = let l = h.long in absurd (omega (arith, l, w))
 ways_meet source status other text otherwise (by_tokens w a) (by_length h) = let l = h.long in absurd (omega (arith, l, w))
-ways_meet source status other text otherwise (by_tokens w a) (by_tokens v b) = inl (faults-same source status other text otherwise (by-fault source status text a) (by-fault source other otherwise b))
+ways_meet source status other text otherwise (by_tokens w a) (by_tokens v b) = faults-same source status other text otherwise (by-fault source status text a) (by-fault source other otherwise b)
 ways_meet source status other text otherwise (by_tokens w a) (by_tree v b) = absurd (unlexed-unparsed source status other text otherwise a b)
 ways_meet source status other text otherwise (by_tokens w a) (by_reading v b) = absurd (unlexed-lexed source status text b.read.tokens a b.read.lexed)
 ways_meet source status other text otherwise (by_tree w a) (by_length h) = let l = h.long in absurd (omega (arith, l, w))
@@ -227,16 +238,11 @@ ways_meet source status other text otherwise (by_reading w a) (by_tokens v b) = 
 ways_meet source status other text otherwise (by_reading w a) (by_tree v b) = absurd (unparsed-read source other otherwise a.reading b a.read)
 ways_meet source status other text otherwise (by_reading w a) (by_reading v b) =
     let e = reads-same source a.reading b.reading a.read b.read in
-    inl (a.gives ∙ ap status_of e ∙ sym b.gives, a.says ∙ ap text_of e ∙ sym b.says)
+    (a.gives ∙ ap status_of e ∙ sym b.gives, a.says ∙ ap text_of e ∙ sym b.says)
 
 pub one_answer : OneAnswer
-unfolding One
 one_answer source status other text otherwise h k = ways_meet source status other text otherwise (way source status text h) (way source other otherwise k)
 
 -- an accepted source has its report for an answer
 pub accepted-answer : (source : List ℕ) (p : Program) (status : Status) (text : List ℕ) → IsWithin source → IsAccepted source p → SourceAnswer source status text → (status ≡ report_status p) × (text ≡ report_of p)
-accepted-answer source p status text w i h =
-    ⊎_elim
-    (λ e. e)
-    (λ u. absurd (unparsed-read source status text (Built p) (unparsed-first source status (report_status p) text (report_of p) u) i))
-    (one_answer source status (report_status p) text (report_of p) h (report p w i))
+accepted-answer source p status text w i h = one_answer source status (report_status p) text (report_of p) h (report p w i)

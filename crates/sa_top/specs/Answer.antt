@@ -1,5 +1,5 @@
 -- What a command line and files are to be answered with.
-use Rattle.std.specs.Prelude.{ℕ, ◌≡◌, ◌<◌, ◌≤◌, ◌⊎◌, List, [], ◌∷◌, if◌then◌else◌, Option, Some, None, codes, length}
+use Rattle.std.specs.Prelude.{ℕ, ◌≡◌, ◌<◌, ◌≤◌, List, [], ◌∷◌, if◌then◌else◌, Option, Some, None, codes, length}
 use Rattle.std.specs.Str.{bytes_eq}
 use Rattle.sa_base.specs.declared.pos.Pos.{Pos}
 use Rattle.sa_base.specs.declared.alarm.Alarm.{Alarm}
@@ -43,7 +43,7 @@ pub data HasNoTokens (source : List ℕ) : Status → List ℕ → Type 0 where
   directive : (p : Pos) → IsRefused source (Directive p) → HasNoTokens source s.SourceRefused (refused_text code.Directive p)
   too_many : HasTooMany source → HasNoTokens source s.Limit (limit_text Tokens)
 
--- its tokens have no tree, or none in which no more is open than may be
+-- its tokens begin no text at some place, or more is open at a token than may be, whichever comes first
 pub data IsUnparsed (source : List ℕ) : Status → List ℕ → Type 0 where
   no_tree : (ts : List Token) (p : Pos) → IsLexed source ts → IsFault ts (end_pos source) (Syntax p) → IsUnparsed source s.SourceRefused (refused_text code.Syntax p)
   too_deep : (ts : List Token) (p : Pos) → IsLexed source ts → IsFault ts (end_pos source) (TooDeep p) → IsUnparsed source s.Limit (limit_text Nesting)
@@ -61,15 +61,9 @@ pub data SourceAnswer (source : List ℕ) : Status → List ℕ → Type 0 where
   too_large : IsWithin source → IsRead source TooLarge → SourceAnswer source s.Limit (limit_text Cells)
   report : (p : Program) → IsWithin source → IsAccepted source p → SourceAnswer source (report_status p) (report_of p)
 
--- one is a syntax error, and the other the limit of nesting
-pub data IsErrorOrDeep (source : List ℕ) : (status other : Status) (text otherwise : List ℕ) → Type 0 where
-  error_first : (p : Pos) → IsUnparsed source s.SourceRefused (refused_text code.Syntax p) → IsUnparsed source s.Limit (limit_text Nesting) → IsErrorOrDeep source s.SourceRefused s.Limit (refused_text code.Syntax p) (limit_text Nesting)
-  deep_first : (p : Pos) → IsUnparsed source s.Limit (limit_text Nesting) → IsUnparsed source s.SourceRefused (refused_text code.Syntax p) → IsErrorOrDeep source s.Limit s.SourceRefused (limit_text Nesting) (refused_text code.Syntax p)
-
--- Two answers to one source are the same, unless one is a syntax error and the other the limit of nesting.
+-- Two answers to one source are the same.
 abbrev pub OneAnswer : Type 0
-OneAnswer = (source : List ℕ) (status other : Status) (text otherwise : List ℕ) → SourceAnswer source status text → SourceAnswer source other otherwise →
-    ((status ≡ other) × (text ≡ otherwise)) ⊎ IsErrorOrDeep source status other text otherwise
+OneAnswer = (source : List ℕ) (status other : Status) (text otherwise : List ℕ) → SourceAnswer source status text → SourceAnswer source other otherwise → (status ≡ other) × (text ≡ otherwise)
 
 -- ---- the answer to words
 -- a status with its text, or one of those that answer a source, or a file that is missing

@@ -46,7 +46,7 @@ pub fn run_alone<H: Shelf, K: Sink>(
     ensures sound { Sound }
     ensures short { Short }
 
-    // A source is read as one program at most, and has one answer, unless it has no tree.
+    // A source is read as one program at most, and has one answer.
     ensures read_once { OneReading }
     ensures answered_once { OneAnswer }
 {

@@ -1,4 +1,4 @@
-use Rattle.sa_syntax.proofs.EndsUnit.{told_place}
+use Rattle.sa_syntax.proofs.Nesting.{told_place}
 use Rattle.sa_syntax.proofs.laws.tells_place.Goals as goal
 
 pub returns : goal.returns
