@@ -1,4 +1,4 @@
-ghost use Rattle.std.specs.Prelude.{◌≡◌, ◌<◌, true, All, length};
+ghost use Rattle.std.specs.Prelude.{◌≡◌, ◌<◌, true, All, length, IfOk};
 ghost use Rattle.sa_core.specs.Bits.{FitsBits, bits, bits_laws};
 ghost use Rattle.sa_core.specs.Machine.{IsWithin};
 ghost use Rattle.sa_core.specs.Gathered.{IsCoreOf};
@@ -128,5 +128,41 @@ fn replays(rt: HostRuntime) -> Result<(), Fail> {
         Ok(3)
     );
     order_is_free(&Bits);
+    Ok(())
+}
+
+/// A core of that many branches, all of which worker 0 holds.
+fn all_claimed(alloc: Global, branches: u32) -> Result<Core<Bits>, OutOfMemory>
+    ensures count { IfOk result (λ core. length core.branches ≡ branches) }
+    ensures same_work { IfOk result (λ core. IsCoreOf bits core) }
+{
+    let mut core = Core::open(alloc, &Bits, branches)?;
+    for _ in 0..branches {
+        let _ = core.step(alloc, &Bits, Event::Claim(0));
+    }
+    Ok(core)
+}
+
+/// What the last of so many branches meets where all are held by worker 0: another worker, its own giving back, the
+/// sweep, and one more.
+fn at_the_last(alloc: Global, branches: u32) -> Result<[Result<(), CoreError>; 4], OutOfMemory>
+    requires { 0 < branches }
+{
+    let last = branches - 1;
+    let mut core = all_claimed(alloc, branches)?;
+    let other = core.step(alloc, &Bits, Event::File(1, last));
+    let gave = core.step(alloc, &Bits, Event::Gave(0, last));
+    let swept = core.step(alloc, &Bits, Event::Sweep(last));
+    let again = core.step(alloc, &Bits, Event::Sweep(last));
+    Ok([other, gave, swept, again])
+}
+
+#[test]
+fn takes_the_most_branches(rt: HostRuntime) -> Result<(), Fail> {
+    let [other, gave, swept, again] = at_the_last(rt.alloc(), 1_025)?;
+    assert_eq!(rt; other, Err(CoreError::Taken(1_024)));
+    assert_eq!(rt; gave, Ok(()));
+    assert_eq!(rt; swept, Ok(()));
+    assert_eq!(rt; again, Err(CoreError::Done(1_024)));
     Ok(())
 }

@@ -1,5 +1,5 @@
 -- The closed form: that it is a matrix, and how large its bounds are.
-use Rattle.std.proofs.Common.{◌≡◌, ℕ, ◌*◌, ◌^◌, ◌<◌, ◌≤◌, not, Bool, true, false, ℤ, pos, unsigned_abs, Some, None, inl, inr, ap, ap₂, sym, subst, refl, ◌∙◌, arith, suc-mul}
+use Rattle.std.proofs.Common.{◌≡◌, ℕ, zero, suc, ◌*◌, ◌<◌, ◌≤◌, not, Bool, true, false, ℤ, pos, unsigned_abs, Some, None, inl, inr, ap, ap₂, sym, subst, refl, ◌∙◌, arith, suc-mul}
 use Rattle.std.specs.Int.{int_shr}
 use Rattle.std.proofs.lemmas.Bool.{not-true, not-false}
 use Rattle.std.proofs.lemmas.Option.{none-some, same_Some}
@@ -22,23 +22,27 @@ walk_size m limit h (go {k} {i} {h = l} {x = x} {y} p q e w) =
     let sum = size_of_sum x y limit (k * limit) (h i l x p q e) (walk_size m limit h w) in
     rw suc-mul (omega arith)
 
-pub within_shortest : (m : Table) → IsWithin (2 ^ 100) m → IsWithin (2 ^ 104) (shortest m)
-within_shortest m h = λ i j z p q e.
+times_mono : (a b n : ℕ) → a ≤ b → a * n ≤ b * n
+times_mono zero b n h = omega arith
+times_mono (suc a) zero n h = absurd (omega arith)
+times_mono (suc a) (suc b) n h = let k = times_mono a b n (omega arith) in rw (suc-mul, suc-mul) (omega arith)
+
+pub within_shortest : (m : Table) (limit : ℕ) → IsWithin limit m → IsWithin (16 * limit) (shortest m)
+within_shortest m limit h = λ i j z p q e.
     let r = reached_by_walk m 16 i j z (rw (vars-walks m 16) at p) (rw (vars-walks m 16) at q) e in
-    long r.0 r.1 (walk_size m (2 ^ 100) h r.2)
-  where
-    long : {n : ℕ} (a : ℕ) → a ≤ 16 → n ≤ a * 2 ^ 100 → n ≤ 2 ^ 104
-    long a b k = omega arith
+    let size = walk_size m limit h r.2 in
+    let more = times_mono r.0 16 limit r.1 in
+    omega arith
 
-half_size : (b : Bound) (z : ℤ) → ((y : ℤ) → b ≡ Some y → unsigned_abs y ≤ 2 ^ 104) → half b ≡ Some z → unsigned_abs z ≤ 2 ^ 104
-half_size None z h e = absurd (none-some z e)
-half_size (Some y) z h e = let k = h y refl in let l = size-half y in subst (λ x. unsigned_abs x ≤ 2 ^ 104) (same_Some (int_shr y 1) z e) (omega arith)
+half_size : (b : Bound) (limit : ℕ) (z : ℤ) → ((y : ℤ) → b ≡ Some y → unsigned_abs y ≤ limit) → half b ≡ Some z → unsigned_abs z ≤ limit
+half_size None limit z h e = absurd (none-some z e)
+half_size (Some y) limit z h e = let k = h y refl in let l = size-half y in subst (λ x. unsigned_abs x ≤ limit) (same_Some (int_shr y 1) z e) (omega arith)
 
-pub within_strengthened : (c : Table) → IsWithin (2 ^ 104) c → IsWithin (2 ^ 105) (strengthened (rounded c))
+pub within_strengthened : (c : Table) (limit : ℕ) → IsWithin limit c → IsWithin (2 * limit) (strengthened (rounded c))
 unfolding below_half above_half
-within_strengthened c h = λ i j z p q e. at i j z (rw (vars-strengthened c) at p) (rw (vars-strengthened c) at q) e
+within_strengthened c limit h = λ i j z p q e. at i j z (rw (vars-strengthened c) at p) (rw (vars-strengthened c) at q) e
   where
-    at : (i j : ℕ) (z : ℤ) → i < nodes c → j < nodes c → entry (strengthened (rounded c)) i j ≡ Some z → unsigned_abs z ≤ 2 ^ 105
+    at : (i j : ℕ) (z : ℤ) → i < nodes c → j < nodes c → entry (strengthened (rounded c)) i j ≡ Some z → unsigned_abs z ≤ 2 * limit
     at i j z p q e =
         let found = sym (strengthened_entry c i j p q) ∙ e in
         let above = bar_below i c.vars p in
@@ -47,10 +51,15 @@ within_strengthened c h = λ i j z p q e. at i j z (rw (vars-strengthened c) at 
           | inl own ↦ (let k = h i j z p q (sym own ∙ found) in omega arith)
           | inr sum ↦
               (let parts = plus_parts (below_half c i) (above_half c j) z (sym sum ∙ found) in
-              let x = half_size (entry c i (bar i)) parts.0 (λ y f. h i (bar i) y p above f) parts.2 in
-              let y = half_size (entry c (bar j) j) parts.1 (λ y f. h (bar j) j y below q f) parts.3 in
-              rw parts.4 (size_of_sum parts.0 parts.1 (2 ^ 104) (2 ^ 104) x y))
+              let x = half_size (entry c i (bar i)) limit parts.0 (λ y f. h i (bar i) y p above f) parts.2 in
+              let y = half_size (entry c (bar j) j) limit parts.1 (λ y f. h (bar j) j y below q f) parts.3 in
+              let size = size_of_sum parts.0 parts.1 limit limit x y in
+              rw parts.4 (omega arith))
         ]
+
+-- how large the entries of the closed form are
+pub within_closed : (m : Table) (limit : ℕ) → IsWithin limit m → IsWithin (32 * limit) (strengthened (rounded (shortest m)))
+within_closed m limit h = λ i j z p q e. let size = within_strengthened (shortest m) (16 * limit) (within_shortest m limit h) i j z p q e in omega arith
 
 -- ---- the closed form is a matrix
 

@@ -7,6 +7,9 @@ pub mod Shortening
 pub mod Strengthening
 pub mod Soundness
 pub mod ClosedLaws
+pub mod Closures
+pub mod Tightness
+pub mod Arcs
 pub mod NodeLaws
 pub mod MatrixLaws
 pub mod OperationLaws

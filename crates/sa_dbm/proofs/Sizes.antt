@@ -79,3 +79,7 @@ within-shifted limit k m var c h l =
     small (Some y) r s a b l = λ z e.
         subst (λ x. unsigned_abs x ≤ limit + (k + k)) (same_Some _ z e)
         (size_of_sum y (s -ℤ r) limit (k + k) (l y refl) (size_of_sum s (neg_ℤ r) k k b (rw size-negated a)))
+
+-- a greater limit
+pub within_more : (a b : ℕ) (m : Table) → a ≤ b → IsWithin a m → IsWithin b m
+within_more a b m l h = λ i j z p q e. let k = h i j z p q e in omega arith

@@ -54,7 +54,7 @@ opposite p i = rw (value-bar p i) (twice (value p i))
     twice v = omega (arith, ints)
 
 -- a bound on a number's double, halved
-below_halved : (v : ℤ) (b : Bound) → AtMost (Some (v +ℤ v)) b → AtMost (Some v) (half b)
+pub below_halved : (v : ℤ) (b : Bound) → AtMost (Some (v +ℤ v)) b → AtMost (Some v) (half b)
 below_halved v None h = tt
 below_halved v (Some z) h = half-greatest v z h
 
@@ -251,7 +251,7 @@ unfolding joined
 points_joined m o vars p (inl l) = lies_in_table p m.vars (λ i j. greater (entry m i j) (entry o i j)) (λ i j q r. at_most_trans (between p i j) (entry m i j) _ (l i j q r) (greater_left (entry m i j) (entry o i j)))
 points_joined m o vars p (inr l) = lies_in_table p m.vars (λ i j. greater (entry m i j) (entry o i j)) (λ i j q r. at_most_trans (between p i j) (entry o i j) _ (l i j (rw (← vars) q) (rw (← vars) r)) (greater_right (entry m i j) (entry o i j)))
 
-value_elsewhere : (p : Point) (var : ℕ) (z : ℤ) (i : ℕ) → i / 2 ≢ var → value (with_value p var z) i ≡ value p i
+pub value_elsewhere : (p : Point) (var : ℕ) (z : ℤ) (i : ℕ) → i / 2 ≢ var → value (with_value p var z) i ≡ value p i
 unfolding value
 value_elsewhere p var z i n = ap (λ y. cond (i % 2 == 0) y (neg_ℤ y)) (ap (λ t. cond t z (p (i / 2))) (ne_eqb (i / 2) var n))
 

@@ -112,6 +112,11 @@ matrix-top vars some few =
 unfoldable pub at_or_twin : ℕ → ℕ → ℕ → ℕ → Bool
 at_or_twin i j p q = p == i && q == j || p == bar j && q == bar i
 
+pub tightened_entry : (m : Table) (i j : ℕ) (c : ℤ) (p q : ℕ) → p < nodes m → q < nodes m
+    → entry (tightened m i j c) p q ≡ cond (at_or_twin i j p q) (lesser (entry m p q) (Some c)) (entry m p q)
+unfolding tightened at_or_twin
+tightened_entry m i j c p q a b = entry-table m.vars (λ p q. cond (at_or_twin i j p q) (lesser (entry m p q) (Some c)) (entry m p q)) p q a b
+
 at_or_twin-twin : (i j p q : ℕ) → at_or_twin i j p q ≡ at_or_twin i j (bar q) (bar p)
 unfolding at_or_twin
 at_or_twin-twin i j p q = rw (test-bar q i, test-bar p j, test-bars q j, test-bars p i) (swapped (p == i) (q == j) (p == bar j) (q == bar i))

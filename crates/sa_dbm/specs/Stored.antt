@@ -23,6 +23,10 @@ shown_at xs i = shown (slice_index_or xs i no_bound)
 abbrev pub IsSummable : Bound → Type 0
 IsSummable b = (z : ℤ) → b ≡ Some z → unsigned_abs z ≤ 2 ^ 120
 
+-- a bound to which three others can be added
+abbrev pub IsSmall : Bound → Type 0
+IsSmall b = (z : ℤ) → b ≡ Some z → unsigned_abs z ≤ 2 ^ 102
+
 -- what is stored is a matrix
 pub record IsStored (vars : ℕ) (xs : List ℤ) : Type 0 where
   pub few : vars ≤ 8

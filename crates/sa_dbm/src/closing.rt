@@ -1,8 +1,8 @@
-ghost use Rattle.std.specs.Prelude.{◌≡◌, ℕ, ◌+◌, ◌*◌, ◌^◌, ◌<◌, ◌≤◌, length, not, IsTrue, true, MatchBool};
+ghost use Rattle.std.specs.Prelude.{◌≡◌, ◌≢◌, ℕ, ◌+◌, ◌*◌, ◌^◌, ◌<◌, ◌≤◌, length, not, IsTrue, true, MatchBool, Some, unsigned_abs};
 ghost use Rattle.sa_dbm.specs.Bounds.{plus, lesser, half, is_negative, IsFlat};
-ghost use Rattle.sa_dbm.specs.Tables.{bar, IsMatrix, IsWithin};
-ghost use Rattle.sa_dbm.specs.Closed.{shortest, has_negative_walk, rounded, has_contradiction, strengthened, ClosesTo};
-ghost use Rattle.sa_dbm.specs.Stored.{shown, shown_at, stored, IsSummable};
+ghost use Rattle.sa_dbm.specs.Tables.{bar, IsMatrix, IsWithin, tightened};
+ghost use Rattle.sa_dbm.specs.Closed.{shortest, has_negative_walk, rounded, has_contradiction, strengthened, ClosesTo, IsClosed, LeavesTop};
+ghost use Rattle.sa_dbm.specs.Stored.{shown, shown_at, stored, IsSmall, IsSummable};
 
 use crate::entries::lower_at;
 use crate::node::bar;
@@ -188,10 +188,101 @@ pub fn close(bounds: &mut [i128], vars: usize) -> Closing
     requires matrix { IsMatrix (stored vars bounds.old) }
     requires within { IsWithin (2 ^ 100) (stored vars bounds.old) }
     ensures exact { ClosesTo (stored vars bounds.old) result (stored vars bounds.new) }
+    ensures empty { LeavesTop result vars (stored vars bounds.new) }
     ensures matrix { IsMatrix (stored vars bounds.new) }
-    ensures within { IsWithin (2 ^ 105) (stored vars bounds.new) }
 {
     if shorten(bounds, vars) && strengthen(bounds, vars) {
+        Closing::Closed
+    } else {
+        make_top(bounds, vars);
+        Closing::Empty
+    }
+}
+
+/// The ways over an arc of length `c`: from each node to its beginning and over it, and from its end to each node; for
+/// nodes past the last there is none.
+fn ways_over(bounds: &[i128], nodes: usize, from: usize, to: usize, c: i128) -> Ways
+    requires square { length bounds.now ≡ nodes * nodes }
+    requires few { nodes ≤ 16 }
+    requires from { from < nodes }
+    requires to { to < nodes }
+    requires c { unsigned_abs c ≤ 2 ^ 100 }
+    requires small { (p q : ℕ) → p < nodes → q < nodes → IsSmall (shown_at bounds.now (p * nodes + q)) }
+    ensures to { (i : ℕ) → i < nodes → shown_at result.to i ≡ plus (shown_at bounds.now (i * nodes + from)) (Some c) }
+    ensures from { (i : ℕ) → i < nodes → shown_at result.from i ≡ shown_at bounds.now (to * nodes + i) }
+{
+    let mut over = [NO_BOUND; MOST];
+    let mut on = [NO_BOUND; MOST];
+    for i in 0..nodes {
+        over[i] = sum(bounds[i * nodes + from], c);
+        on[i] = bounds[to * nodes + i];
+    }
+    Ways { to: over, from: on }
+}
+
+/// Lowers each bound to the way over a new arc of length `c`, where that is lower. It stops with `false` where the arc and
+/// the way back have a negative total.
+fn add_arc(bounds: &mut [i128], nodes: usize, from: usize, to: usize, c: i128) -> bool
+    requires square { length bounds.old ≡ nodes * nodes }
+    requires few { nodes ≤ 16 }
+    requires from { from < nodes }
+    requires to { to < nodes }
+    requires c { unsigned_abs c ≤ 2 ^ 100 }
+    requires small { (p q : ℕ) → p < nodes → q < nodes → IsSmall (shown_at bounds.old (p * nodes + q)) }
+    ensures answer { result ≡ not (is_negative (plus (Some c) (shown_at bounds.old (to * nodes + from)))) }
+    ensures bounds { IsTrue result → (p q : ℕ) → p < nodes → q < nodes →
+        shown_at bounds.new (p * nodes + q)
+        ≡ lesser (shown_at bounds.old (p * nodes + q))
+        (plus (plus (shown_at bounds.old (p * nodes + from)) (Some c)) (shown_at bounds.old (to * nodes + q))) }
+{
+    if is_negative(sum(c, bounds[to * nodes + from])) {
+        return false;
+    }
+    let ways = ways_over(bounds, nodes, from, to, c);
+    lower(bounds, nodes, &ways.to, &ways.from);
+    true
+}
+
+/// Makes each bound of a closed matrix the least total over walks where entry (i, j) and its twin are lowered to `c`: such
+/// walks take at most one way over each of the two arcs (A. Chawdhary, E. Robbins and A. King, Incrementally closing
+/// octagons, 2018). It stops with `false` where a walk from a node back to itself has a negative total.
+fn add_arcs(bounds: &mut [i128], vars: usize, i: usize, j: usize, c: i128) -> bool
+    requires few { vars ≤ 8 }
+    requires square { length bounds.old ≡ 2 * vars * (2 * vars) }
+    requires matrix { IsMatrix (stored vars bounds.old) }
+    requires closed { IsClosed (stored vars bounds.old) }
+    requires within { IsWithin (2 ^ 100) (stored vars bounds.old) }
+    requires row { i < 2 * vars }
+    requires column { j < 2 * vars }
+    requires apart { i ≢ j }
+    requires c { unsigned_abs c ≤ 2 ^ 100 }
+    ensures answer { result ≡ not (has_negative_walk (shortest (tightened (stored vars bounds.old) i j c))) }
+    ensures walks { IsTrue result → stored vars bounds.new ≡ shortest (tightened (stored vars bounds.old) i j c) }
+{
+    let nodes = 2 * vars;
+    let (first, second) = (bar(j), bar(i));
+    if !add_arc(bounds, nodes, i, j, c) {
+        return false;
+    }
+    add_arc(bounds, nodes, first, second, c)
+}
+
+/// Makes a closed matrix with entry (i, j) and its twin lowered to `c` its closed form again.
+pub fn close_after(bounds: &mut [i128], vars: usize, i: usize, j: usize, c: i128) -> Closing
+    requires few { vars ≤ 8 }
+    requires square { length bounds.old ≡ 2 * vars * (2 * vars) }
+    requires matrix { IsMatrix (stored vars bounds.old) }
+    requires closed { IsClosed (stored vars bounds.old) }
+    requires within { IsWithin (2 ^ 100) (stored vars bounds.old) }
+    requires row { i < 2 * vars }
+    requires column { j < 2 * vars }
+    requires apart { i ≢ j }
+    requires c { unsigned_abs c ≤ 2 ^ 100 }
+    ensures exact { ClosesTo (tightened (stored vars bounds.old) i j c) result (stored vars bounds.new) }
+    ensures empty { LeavesTop result vars (stored vars bounds.new) }
+    ensures matrix { IsMatrix (stored vars bounds.new) }
+{
+    if add_arcs(bounds, vars, i, j, c) && strengthen(bounds, vars) {
         Closing::Closed
     } else {
         make_top(bounds, vars);

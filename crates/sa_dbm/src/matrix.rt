@@ -1,8 +1,8 @@
-ghost use Rattle.std.specs.Prelude.{◌≡◌, ◌≢◌, ℕ, ℤ, ◌*◌, ◌^◌, ◌<◌, ◌≤◌, ◌≤ℤ◌, ◌-ℤ◌, ◌↔◌, ◌⊎◌, IfOk, IsTrue, unsigned_abs};
+ghost use Rattle.std.specs.Prelude.{◌≡◌, ◌≢◌, ℕ, ℤ, ◌+◌, ◌*◌, ◌^◌, ◌<◌, ◌≤◌, ◌≤ℤ◌, ◌-ℤ◌, ◌↔◌, ◌⊎◌, IfOk, IsTrue, unsigned_abs};
 ghost use Rattle.sa_dbm.specs.Tables.{nodes, entry, IsMatrix, IsWithin, IsBelow, top_table, tightened, joined, is_below, forgotten, shifted};
 ghost use Rattle.sa_dbm.specs.Walks.{walks, IsLeastTotal};
 ghost use Rattle.sa_dbm.specs.Points.{Point, value, moved, with_value, LiesIn};
-ghost use Rattle.sa_dbm.specs.Closed.{ClosesTo, KeepsPoints};
+ghost use Rattle.sa_dbm.specs.Closed.{ClosesTo, KeepsPoints, IsClosed, LeavesClosed, LeavesTight, KeepsLimits};
 
 use crate::closing::{self, Closing};
 use crate::stored::NO_BOUND;
@@ -39,6 +39,7 @@ impl Matrix {
         requires few { vars ≤ 8 }
         ensures value { IfOk result (λ m. m ≡ top_table vars) }
         ensures vars { IfOk result (λ m. m.vars ≡ vars) }
+        ensures within { IfOk result (λ m. (limit : ℕ) → IsWithin limit m) }
     {
         let nodes = 2 * vars;
         let mut bounds = vec![in alloc; NO_BOUND; nodes * nodes]?;
@@ -76,6 +77,7 @@ impl Matrix {
         requires c { unsigned_abs c ≤ 2 ^ 100 }
         ensures value { self.new ≡ tightened self.old i j c }
         ensures vars { self.new.vars ≡ self.old.vars }
+        ensures within { (limit : ℕ) → IsWithin limit self.old → unsigned_abs c ≤ limit → IsWithin limit self.new }
 
         // exactly the points stay that meet the bound
         ensures points { (p : Point) → LiesIn p self.new ↔ (LiesIn p self.old × ((value p j -ℤ value p i) ≤ℤ c)) }
@@ -93,11 +95,38 @@ impl Matrix {
         // the totals that the closed form is made of are the least ones over walks of at most 16 arcs
         ensures walks { (i j : ℕ) → i < nodes self.old → j < nodes self.old → IsLeastTotal self.old 16 i j (entry (walks self.old 16) i j) }
         ensures points { KeepsPoints self.old result self.new }
-        ensures within { IsWithin (2 ^ 105) self.new }
+
+        // what is left is closed, below what was there, and no lower bound would hold of all its points
+        ensures closed { LeavesClosed self.old result self.new }
+        ensures tight { LeavesTight result self.new }
+
+        // no entry is above 2^105; and where each variable is bounded on both sides, the limit that came in is kept
+        ensures limits { KeepsLimits self.old self.new }
         ensures vars { self.new.vars ≡ self.old.vars }
         ensures matrix { IsMatrix self.new }
     {
         closing::close(&mut self.bounds, self.vars)
+    }
+
+    /// What `tighten` and then `close` give of a closed matrix, in a time that grows with the square of the nodes alone.
+    ///
+    /// After `Empty` the matrix is of no further use: it then has no bounds.
+    pub fn close_after(&mut self, i: usize, j: usize, c: i128) -> Closing
+        requires closed { IsClosed self.old }
+        requires row { i < nodes self.old }
+        requires column { j < nodes self.old }
+        requires apart { i ≢ j }
+        requires within { IsWithin (2 ^ 100) self.old }
+        requires c { unsigned_abs c ≤ 2 ^ 100 }
+        ensures exact { ClosesTo (tightened self.old i j c) result self.new }
+        ensures points { KeepsPoints (tightened self.old i j c) result self.new }
+        ensures closed { LeavesClosed (tightened self.old i j c) result self.new }
+        ensures tight { LeavesTight result self.new }
+        ensures limits { KeepsLimits (tightened self.old i j c) self.new }
+        ensures vars { self.new.vars ≡ self.old.vars }
+        ensures matrix { IsMatrix self.new }
+    {
+        closing::close_after(&mut self.bounds, self.vars, i, j, c)
     }
 
     /// Raises each entry to that of `o`: the points of both lie in it.
@@ -106,6 +135,8 @@ impl Matrix {
         ensures value { self.new ≡ joined self.old o.now }
         ensures vars { self.new.vars ≡ self.old.vars }
         ensures points { (p : Point) → LiesIn p self.old ⊎ LiesIn p o.now → LiesIn p self.new }
+        ensures closed { IsClosed self.old → IsClosed o.now → IsClosed self.new }
+        ensures within { (limit : ℕ) → IsWithin limit self.old → IsWithin limit o.now → IsWithin limit self.new }
     {
         entries::raise(&mut self.bounds, &o.bounds);
     }
@@ -125,6 +156,7 @@ impl Matrix {
         requires within { IsWithin (2 ^ 100) self.old }
         ensures value { self.new ≡ forgotten self.old var }
         ensures vars { self.new.vars ≡ self.old.vars }
+        ensures within { (limit : ℕ) → IsWithin limit self.old → IsWithin limit self.new }
 
         // the variable may have any value
         ensures points { (p : Point) (z : ℤ) → LiesIn p self.old → LiesIn (with_value p var z) self.new }
@@ -139,6 +171,7 @@ impl Matrix {
         requires c { unsigned_abs c ≤ 2 ^ 100 }
         ensures value { self.new ≡ shifted self.old var c }
         ensures vars { self.new.vars ≡ self.old.vars }
+        ensures within { (limit : ℕ) → IsWithin limit self.old → IsWithin (limit + (unsigned_abs c + unsigned_abs c)) self.new }
         ensures points { (p : Point) → LiesIn p self.old ↔ LiesIn (moved p var c) self.new }
     {
         operations::shift(&mut self.bounds, self.vars, var, c);
@@ -173,6 +206,61 @@ mod tests {
         for (i, j, want) in table {
             assert!(rt; i < 4 && j < 4);
             assert_eq!(rt; m.bound(i, j), want, "at {i}, {j}");
+        }
+        Ok(())
+    }
+
+    #[test]
+    fn closes_after_one_more_bound(rt: HostRuntime) -> Result<(), Fail> {
+        let mut m = Matrix::top(rt.alloc(), 2)?;
+        // x + y <= 1 and x - y <= 0
+        m.tighten(3, 0, 1);
+        m.tighten(2, 0, 0);
+        let answer = m.close();
+        assert_eq!(rt; answer, Closing::Closed);
+        if answer == Closing::Closed {
+            // x <= -1
+            let next = m.close_after(1, 0, -2);
+            assert_eq!(rt; next, Closing::Closed);
+            let table = [(1, 0, Some(-2)), (2, 0, Some(0)), (0, 1, None)];
+            for (i, j, want) in table {
+                assert!(rt; i < 4 && j < 4);
+                assert_eq!(rt; m.bound(i, j), want, "at {i}, {j}");
+            }
+            if next == Closing::Closed {
+                // x >= 1
+                assert_eq!(rt; m.close_after(0, 1, -2), Closing::Empty);
+            }
+        }
+        Ok(())
+    }
+
+    /// Eight variables, each at most 1 below the next, all from 0 to 100: a chain of bounds that only a closure finds. Then
+    /// the last is lowered, and with it the first, by both closures alike.
+    #[test]
+    fn goes_on_after_a_closure(rt: HostRuntime) -> Result<(), Fail> {
+        let mut m = Matrix::top(rt.alloc(), 8)?;
+        for k in 0..8 {
+            // x_k <= 100 and -x_k <= 0
+            m.tighten(2 * k + 1, 2 * k, 200);
+            m.tighten(2 * k, 2 * k + 1, 0);
+        }
+        for k in 0..7 {
+            // x_k - x_(k + 1) <= -1
+            m.tighten(2 * k + 2, 2 * k, -1);
+        }
+        let answer = m.close();
+        assert_eq!(rt; answer, Closing::Closed);
+        if answer == Closing::Closed {
+            assert_eq!(rt; m.bound(14, 0), Some(-7));
+            assert_eq!(rt; m.bound(1, 0), Some(186));
+            let mut again = m.copy(rt.alloc())?;
+            // x_7 <= 50
+            again.tighten(15, 14, 100);
+            assert_eq!(rt; again.close(), Closing::Closed);
+            assert_eq!(rt; m.close_after(15, 14, 100), Closing::Closed);
+            assert_eq!(rt; (m.le(&again), again.le(&m)), (true, true));
+            assert_eq!(rt; m.bound(1, 0), Some(86));
         }
         Ok(())
     }

@@ -1,10 +1,13 @@
 use Rattle.std.proofs.Common.{◌≡◌, ◌∙◌, length, sym, subst, ap, ap₂}
-use Rattle.sa_dbm.specs.Tables.{IsMatrix, joined}
+use Rattle.sa_dbm.specs.Tables.{IsMatrix, IsWithin, joined}
+use Rattle.sa_dbm.specs.Closed.{IsClosed}
 use Rattle.sa_dbm.specs.Points.{LiesIn}
 use Rattle.sa_dbm.specs.Stored.{stored}
 use Rattle.sa_dbm.proofs.TableLaws.{matrix-joined}
 use Rattle.sa_dbm.proofs.StoredLaws.{vars-stored}
 use Rattle.sa_dbm.proofs.Soundness.{points_joined}
+use Rattle.sa_dbm.proofs.Sizes.{within-joined}
+use Rattle.sa_dbm.proofs.Closures.{closed-joined}
 use Rattle.sa_dbm.proofs.OperationLaws.{joined_stored}
 use Rattle.sa_dbm.proofs.MatrixLaws.{seen, stored_again, same_vars, same_length, vars_kept}
 use Rattle.sa_dbm.proofs.matrix.Matrix.join_into.Goals as goal
@@ -37,6 +40,14 @@ returns-clause-value c =
 
 pub returns-clause-points : goal.returns-clause-points
 returns-clause-points c = λ p l. subst (LiesIn p) (sym (returns-clause-value c)) (points_joined c.args.self.now c.args.o.now c.requires p l)
+
+pub returns-clause-closed : goal.returns-clause-closed
+returns-clause-closed c = λ a b.
+    subst IsClosed (sym (returns-clause-value c))
+    (closed-joined c.args.self.now c.args.o.now c.requires (subst IsMatrix c.self.view_is c.self.invariant.matrix) (subst IsMatrix c.o.view_is c.o.invariant.matrix) a b)
+
+pub returns-clause-within : goal.returns-clause-within
+returns-clause-within c = λ limit h k. subst (IsWithin limit) (sym (returns-clause-value c)) (within-joined limit c.args.self.now c.args.o.now c.requires h k)
 
 pub returns-clause-vars : goal.returns-clause-vars
 returns-clause-vars c = vars_kept c.self.inside.vars _ c.self.inside.bounds.items c.args.self.now c.self.view_is
