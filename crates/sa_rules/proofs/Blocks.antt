@@ -1,9 +1,10 @@
 -- Statements, blocks and main see and refuse what their events do.
-use Rattle.std.proofs.Common.{◌≡◌, ℕ, Bool, true, false, ◌||◌, List, [], ◌∷◌, ◌++◌, refl, ap, subst, ◌∙◌, Option, Some, None}
+use Rattle.std.proofs.Common.{◌≡◌, ℕ, Bool, true, false, not, ◌||◌, ◌&&◌, List, [], ◌∷◌, ◌++◌, refl, ap, subst, ◌∙◌, Option, Some, None}
 use Rattle.std.specs.List.{flat_map}
+use Rattle.std.specs.Prelude.{◌==◌}
 use Rattle.sa_base.specs.declared.num.Num.{Num}
 use Rattle.sa_base.specs.declared.pos.Pos.{Pos}
-use Rattle.sa_syntax.specs.declared.expr.Place.{Place}
+use Rattle.sa_syntax.specs.declared.expr.Place as from_place
 use Rattle.sa_syntax.specs.declared.stmt.BlockItem as blocks
 use Rattle.sa_syntax.specs.declared.stmt.BlockItem.{BlockItem}
 use Rattle.sa_syntax.specs.declared.stmt.Directive.{Directive}
@@ -13,7 +14,10 @@ use Rattle.sa_syntax.specs.declared.stmt.Simple.TheVariants as x
 use Rattle.sa_syntax.specs.declared.stmt.Stmt as stmts
 use Rattle.sa_syntax.specs.declared.stmt.Stmt.{Row_of-BlockItem, end_of-BlockItem, more_of-BlockItem}
 use Rattle.sa_typed.specs.declared.expr.Access.{Access}
+use Rattle.sa_syntax.specs.declared.expr.Expr as tree
+use Rattle.sa_syntax.specs.declared.expr.Expr.{Number, Place', Bracket', Prefix', Cast', Chain', Choice', end_of-Expr, more_of-Expr, more_of-Specifiers, end_of-Specifiers}
 use Rattle.sa_typed.specs.declared.expr.Expr.{Expr}
+use Rattle.sa_typed.specs.declared.stmt.Simple.{Simple}
 use Rattle.sa_typed.specs.declared.expr.Operator.{Operator}
 use Rattle.sa_typed.specs.declared.stmt.Stmt.{Stmt}
 use Rattle.sa_typer.specs.declared.bodies.Body.{Body}
@@ -28,20 +32,26 @@ use Rattle.sa_scopes.specs.declared.typer.Typer.{Typer}
 use Rattle.sa_typer.specs.Bodies as body
 use Rattle.sa_typer.specs.Bodies.{block, no_body, main_by, main_item, main_items, main_block, clock_loop}
 use Rattle.sa_scopes.specs.First.{place_pos, item_pos}
+use Rattle.sa_operands.specs.Expressions.{expr}
 use Rattle.sa_operands.specs.Operands.{is_object}
-use Rattle.sa_operands.specs.Places.{access, form_at}
+use Rattle.sa_scopes.specs.declared.types.Ty.{Ty}
+use Rattle.sa_operands.specs.Places.{access, form_at, operand, operand_by}
 use Rattle.sa_scopes.specs.Scopes.{Scope, is_some, oldest, count}
 use Rattle.sa_typer.specs.Statements.{to_number, to_struct, to_form, assigned, compound_of, turn_of, one as just_one, sort_by, compounded_number, compounded_by, compounded, left_side, simple, left_scope, scoped, directive, stmt, items, item}
-use Rattle.sa_scopes.specs.Typing.{Typed, Typing, Gives, and_then, each, refuse_if, fault}
-use Rattle.sa_rules.specs.Events.{Event, Begins, Ends}
+use Rattle.sa_scopes.specs.Typing.{Typed, Typing, Gives, and_then, pure, each, refuse_if, fault}
+use Rattle.sa_rules.specs.Events.{Event, Copies, Stores, Begins, Ends}
 use Rattle.sa_rules.specs.Scenes.{Meaning, within}
-use Rattle.sa_rules.specs.Sight.{Open, Block, see}
-use Rattle.sa_rules.specs.Texts.{in_left, in_simple, in_directive, in_stmt, in_items, in_item, in_loop_or_item, stray_if, in_main, has_loop}
-use Rattle.sa_rules.proofs.Walks.{meant, scene_of, state, value, Reads, Quiet, quiet_gives, quiet_refuses, quiet_then, quiet_unless, quiet, bind, then_here, ends, all_parts, refused_noted}
-use Rattle.sa_rules.proofs.Steps.{At, seeing, one, one_at, one_as, refused_one, nothing_added}
+use Rattle.sa_rules.specs.Rules.{at_if}
+use Rattle.sa_rules.specs.Sight.{Sight, Open, Place, Block, see}
+use Rattle.sa_rules.specs.Spots as seen
+use Rattle.sa_rules.specs.Spots.{is_ill_copied}
+use Rattle.sa_rules.specs.Texts.{in_left, in_right, in_simple, in_directive, in_stmt, in_items, in_item, in_loop_or_item, stray_if, in_main, has_loop}
+use Rattle.sa_rules.proofs.Walks.{broken, faults_at, meant, scene_of, state, value, Reads, Quiet, quiet_gives, quiet_refuses, quiet_then, quiet_unless, quiet, bind, then_here, then_event, then_quiet, ends, all_parts, refused_noted}
+use Rattle.sa_rules.proofs.PlainParts.{IsPlain, Plain, plain_gives, number_plain, prefix_plain, conversion_plain, chain_plain}
+use Rattle.sa_rules.proofs.Steps.{At, AtSpot, seeing, seen_spot, begins_reads as place_begins, free_at, one, one_at, one_as, quiet_one, refused_one, nothing_added}
 use Rattle.sa_rules.proofs.Names.{oldest_seen}
 use Rattle.sa_rules.proofs.Places.{assigns_reads}
-use Rattle.sa_rules.proofs.Trees.{expr_reads, spot_reads}
+use Rattle.sa_rules.proofs.Trees.{expr_reads, spot_reads, steps_reads}
 use Rattle.sa_rules.proofs.Declared.{local_reads}
 
 -- ---- assignments
@@ -51,21 +61,22 @@ to_number_quiet y num p (a.Struct z k fixed q) s = quiet_refuses 5 p refl
 to_number_quiet y num p (a.Array q) s = quiet_refuses 5 p refl
 to_number_quiet y num p a.Unknown s = quiet_gives
 
-to_struct_quiet : (y : Access) (fixed : Bool) (k : ℕ) (p : Pos) (i : Operand) (s : Typer) → Quiet s (to_struct y fixed k p i s)
-to_struct_quiet y fixed k p (a.Number e from v) s = quiet_refuses 5 p refl
-to_struct_quiet y fixed k p (a.Struct z j g q) s = quiet_then (quiet_unless _ 7 p refl) (λ b t. quiet_gives)
-to_struct_quiet y fixed k p (a.Array q) s = quiet_refuses 5 p refl
-to_struct_quiet y fixed k p a.Unknown s = quiet_gives
+to_struct_quiet : (y : Access) (fixed : Bool) (k : ℕ) (p : Pos) (i : Operand) (s : Typer) → IsPlain i → Quiet s (to_struct y fixed k p i s)
+to_struct_quiet y fixed k p (a.Number e from v) s h = quiet_refuses 5 p refl
+to_struct_quiet y fixed k p (a.Struct z j g q) s h = absurd h
+to_struct_quiet y fixed k p (a.Array q) s h = quiet_refuses 5 p refl
+to_struct_quiet y fixed k p a.Unknown s h = quiet_gives
 
-to_form_quiet : (l : Spot) (o : Option Form) (p : Pos) (i : Operand) (s : Typer) → Quiet s (to_form l o p i s)
-to_form_quiet l None p i s = quiet_gives
-to_form_quiet l (Some (form.Scalar num)) p i s = to_number_quiet (access l) num p i s
-to_form_quiet l (Some (form.Struct k)) p i s = to_struct_quiet (access l) l.fixed k p i s
-to_form_quiet l (Some (form.Array n)) p i s = quiet_refuses 5 p refl
+to_form_quiet : (l : Spot) (o : Option Form) (p : Pos) (i : Operand) (s : Typer) → IsPlain i → Quiet s (to_form l o p i s)
+to_form_quiet l None p i s h = quiet_gives
+to_form_quiet l (Some (form.Scalar num)) p i s h = to_number_quiet (access l) num p i s
+to_form_quiet l (Some (form.Struct k)) p i s h = to_struct_quiet (access l) l.fixed k p i s h
+to_form_quiet l (Some (form.Array n)) p i s h = quiet_refuses 5 p refl
 
-assigned_quiet : (l : Spot) (p : Pos) (i : Operand) (s : Typer) → Quiet s (assigned l p i s)
+-- what is no structure
+assigned_quiet : (l : Spot) (p : Pos) (i : Operand) (s : Typer) → IsPlain i → Quiet s (assigned l p i s)
 unfolding assigned
-assigned_quiet l p i s = to_form_quiet l (form_at l) p i s
+assigned_quiet l p i s h = to_form_quiet l (form_at l) p i s h
 
 compounded_number_quiet : (y : Access) (o : Operator) (p : Pos) (k : Sort) (e : Expr) (num : Num) (s : Typer) → Quiet s (compounded_number y o p k e num s)
 compounded_number_quiet y o p (sort.Number to) e num s = quiet_gives
@@ -116,15 +127,86 @@ main_clock is s =
     ap (λ (t : Typed Body). (value t).clock) (then_is (main_items is no_body s) (left_scope (count s.names) (count s.tags))) ∙ clock_in is no_body s
 
 module _ (found : Bool) where
-  left_reads : (os : List Open) (y : Place) (s : Typer) → Reads (At os found) s (in_left y) (λ l. At os found) (left_side y s)
+  left_reads : (os : List Open) (y : from_place.Place) (s : Typer) → Reads (At os found) s (in_left y) (AtSpot os found) (left_side y s)
   left_reads os y s = bind (spot_reads found os y s) (λ l t. assigns_reads os found (place_pos y) l t)
+
+  -- anything but a place by itself is assigned
+  stores : {A : Type 0} {X : Sight → Type 0} {s : Typer} {xs : List Event} {t : Typed A} (os : List Open) (l : seen.Spot) → Reads X s xs (λ (b : A). At (Place l ∷ os) found) t → Reads X s (xs ++ Stores ∷ []) (λ (b : A). At os found) t
+  unfolding see
+  stores os l h = then_event h (λ b m y. free_at m (λ v z. record { scene = refl; broken = refl; post = record { opened = refl; entry = refl } }) y)
+
+  stored : {X : Sight → Type 0} {s : Typer} {xs : List Event} {t : Typed Operand} (os : List Open) (l : Spot) (q : Pos) → Plain t → Reads X s xs (λ j. At (Place (seen_spot l) ∷ os) found) t →
+      Reads X s (xs ++ Stores ∷ []) (λ b. At os found) (and_then t (assigned l q))
+  stored {t = Gives j u} os l q h r = stores os (seen_spot l) (then_quiet r (assigned_quiet l q j u h.plain))
+
+  -- a place by itself is
+  copies_break : (u : Typer) (os : List Open) (l r : Spot) (q : Pos) (o k : Option Form) (y : Ty) → form_at l ≡ o → form_at r ≡ k →
+      broken (seeing u (Place (seen_spot r) ∷ (Place (seen_spot l) ∷ os)) found y) (Copies q) ≡ faults_at 7 (at_if (is_ill_copied (seen_spot l) (seen_spot r) o k) q) ++ []
+  copies_break u os l r q o k y h g =
+      ap (λ (z : Option Form). faults_at 7 (at_if (is_ill_copied (seen_spot l) (seen_spot r) z (form_at r)) q) ++ []) h
+      ∙ ap (λ (z : Option Form). faults_at 7 (at_if (is_ill_copied (seen_spot l) (seen_spot r) o z) q) ++ []) g
+
+  quietly : (os : List Open) (l r : Spot) (q : Pos) (o k : Option Form) (t : Typed Simple) (u : Typer) → form_at l ≡ o → form_at r ≡ k → is_ill_copied (seen_spot l) (seen_spot r) o k ≡ false → Quiet u t →
+      Reads (AtSpot (Place (seen_spot l) ∷ os) found r) u (Copies q ∷ []) (λ b. At os found) t
+  unfolding see
+  quietly os l r q o k t u h g e c =
+      one_at (λ y. quiet_one (seeing u os found y) c refl (copies_break u os l r q o k y h g ∙ ap (λ (b : Bool). faults_at 7 (at_if b q) ++ []) e) refl (record { opened = refl; entry = refl }))
+
+  structs_read : (os : List Open) (l r : Spot) (q : Pos) (k j : ℕ) (b : Bool) (z : Simple) (u : Typer) → form_at l ≡ Some (form.Struct k) → form_at r ≡ Some (form.Struct j) → not (k == j && l.fixed && r.fixed) ≡ b →
+      Reads (AtSpot (Place (seen_spot l) ∷ os) found r) u (Copies q ∷ []) (λ (b : Simple). At os found) (and_then (refuse_if b 7 q u) (λ c. pure z))
+  unfolding see
+  structs_read os l r q k j true z u h g e =
+      one_at (λ y. refused_one 7 q (seeing u os found y) (fault 7 q ∷ []) refl
+      (copies_break u os l r q (Some (form.Struct k)) (Some (form.Struct j)) y h g ∙ ap (λ (b : Bool). faults_at 7 (at_if b q) ++ []) e) refl (refused_noted 7 q u) (record { opened = refl; entry = refl }))
+  structs_read os l r q k j false z u h g e =
+      one_at (λ y. one_as (seeing u os found y) [] refl
+      (copies_break u os l r q (Some (form.Struct k)) (Some (form.Struct j)) y h g ∙ ap (λ (b : Bool). faults_at 7 (at_if b q) ++ []) e) refl (nothing_added u) (record { opened = refl; entry = refl }))
+
+  copied_by : (os : List Open) (l r : Spot) (q : Pos) (o k : Option Form) (u : Typer) → form_at l ≡ o → form_at r ≡ k →
+      Reads (AtSpot (Place (seen_spot l) ∷ os) found r) u (Copies q ∷ []) (λ b. At os found) (to_form l o q (operand_by r k) u)
+  copied_by os l r q None None u h g = quietly os l r q None None _ u h g refl quiet_gives
+  copied_by os l r q None (Some (form.Scalar num)) u h g = quietly os l r q None (Some (form.Scalar num)) _ u h g refl quiet_gives
+  copied_by os l r q None (Some (form.Struct j)) u h g = quietly os l r q None (Some (form.Struct j)) _ u h g refl quiet_gives
+  copied_by os l r q None (Some (form.Array n)) u h g = quietly os l r q None (Some (form.Array n)) _ u h g refl quiet_gives
+  copied_by os l r q (Some (form.Scalar m)) None u h g = quietly os l r q (Some (form.Scalar m)) None _ u h g refl quiet_gives
+  copied_by os l r q (Some (form.Scalar m)) (Some (form.Scalar num)) u h g = quietly os l r q (Some (form.Scalar m)) (Some (form.Scalar num)) _ u h g refl quiet_gives
+  copied_by os l r q (Some (form.Scalar m)) (Some (form.Struct j)) u h g = quietly os l r q (Some (form.Scalar m)) (Some (form.Struct j)) _ u h g refl (quiet_refuses 5 q refl)
+  copied_by os l r q (Some (form.Scalar m)) (Some (form.Array n)) u h g = quietly os l r q (Some (form.Scalar m)) (Some (form.Array n)) _ u h g refl (quiet_refuses 5 q refl)
+  copied_by os l r q (Some (form.Struct k)) None u h g = quietly os l r q (Some (form.Struct k)) None _ u h g refl quiet_gives
+  copied_by os l r q (Some (form.Struct k)) (Some (form.Scalar num)) u h g = quietly os l r q (Some (form.Struct k)) (Some (form.Scalar num)) _ u h g refl (quiet_refuses 5 q refl)
+  copied_by os l r q (Some (form.Struct k)) (Some (form.Struct j)) u h g = structs_read os l r q k j (not (k == j && l.fixed && r.fixed)) _ u h g refl
+  copied_by os l r q (Some (form.Struct k)) (Some (form.Array n)) u h g = quietly os l r q (Some (form.Struct k)) (Some (form.Array n)) _ u h g refl (quiet_refuses 5 q refl)
+  copied_by os l r q (Some (form.Array m)) None u h g = quietly os l r q (Some (form.Array m)) None _ u h g refl (quiet_refuses 5 q refl)
+  copied_by os l r q (Some (form.Array m)) (Some (form.Scalar num)) u h g = quietly os l r q (Some (form.Array m)) (Some (form.Scalar num)) _ u h g refl (quiet_refuses 5 q refl)
+  copied_by os l r q (Some (form.Array m)) (Some (form.Struct j)) u h g = quietly os l r q (Some (form.Array m)) (Some (form.Struct j)) _ u h g refl (quiet_refuses 5 q refl)
+  copied_by os l r q (Some (form.Array m)) (Some (form.Array n)) u h g = quietly os l r q (Some (form.Array m)) (Some (form.Array n)) _ u h g refl (quiet_refuses 5 q refl)
+
+  copied : (os : List Open) (l r : Spot) (q : Pos) (u : Typer) → Reads (AtSpot (Place (seen_spot l) ∷ os) found r) u (Copies q ∷ []) (λ b. At os found) (assigned l q (operand r) u)
+  unfolding assigned operand
+  copied os l r q u = copied_by os l r q (form_at l) (form_at r) u refl refl
+
+  copies : {X : Sight → Type 0} {s : Typer} {xs : List Event} {t : Typed Spot} (os : List Open) (l : Spot) (q : Pos) → Reads X s xs (AtSpot (Place (seen_spot l) ∷ os) found) t →
+      Reads X s (xs ++ Copies q ∷ []) (λ b. At os found) (and_then (and_then t (λ r. pure (operand r))) (assigned l q))
+  copies {t = Gives r u} os l q h = bind h (λ r u. copied os l r q u)
+
+  right_reads : (os : List Open) (l : Spot) (q : Pos) (i : tree.Expr) (s : Typer) → Reads (AtSpot os found l) s (in_right q i) (λ b. At os found) (and_then (expr i s) (assigned l q))
+  unfolding expr in_right
+  right_reads os l q (Number v unsigned longs decimal p) s = stored os l q (number_plain v unsigned longs decimal p s) (expr_reads found (Place (seen_spot l) ∷ os) (Number v unsigned longs decimal p) s)
+  right_reads os l q (Place' b n row) s =
+      copies os l q (bind (place_begins (Place (seen_spot l) ∷ os) found b s) (λ r t. steps_reads found (Place (seen_spot l) ∷ os) row r t))
+  right_reads os l q (Bracket' p n (more_of-Expr y end_of-Expr)) s = right_reads os l q y s
+  right_reads os l q (Prefix' o p n (more_of-Expr y end_of-Expr)) s = stored os l q (prefix_plain o p n y s) (expr_reads found (Place (seen_spot l) ∷ os) (Prefix' o p n (more_of-Expr y end_of-Expr)) s)
+  right_reads os l q (Cast' p m (more_of-Specifiers r qs b end_of-Specifiers) n (more_of-Expr y end_of-Expr)) s =
+      stored os l q (conversion_plain p m r qs b n y s) (expr_reads found (Place (seen_spot l) ∷ os) (Cast' p m (more_of-Specifiers r qs b end_of-Specifiers) n (more_of-Expr y end_of-Expr)) s)
+  right_reads os l q (Chain' m (more_of-Expr y end_of-Expr) n row) s = stored os l q (chain_plain m y n row s) (expr_reads found (Place (seen_spot l) ∷ os) (Chain' m (more_of-Expr y end_of-Expr) n row) s)
+  right_reads os l q (Choice' o y p m z n w) s = stored os l q (plain_gives tt) (expr_reads found (Place (seen_spot l) ∷ os) (Choice' o y p m z n w) s)
 
   simple_reads : (os : List Open) (y : from_tree.Simple) (s : Typer) → Reads (At os found) s (in_simple y) (λ a. At os found) (simple y s)
   unfolding simple in_simple
-  simple_reads os (x.Assign y q i) s = bind (left_reads os y s) (λ l t. ends (expr_reads found os i t) (λ j u. assigned_quiet l q j u))
-  simple_reads os (x.Compound y o q i) s = bind (left_reads os y s) (λ l t. ends (expr_reads found os i t) (λ j u. compounded_quiet l (compound_of o) q j u))
-  simple_reads os (x.After y o q) s = ends (left_reads os y s) (λ l t. compounded_quiet l (turn_of o) q just_one t)
-  simple_reads os (x.Before o q y) s = ends (left_reads os y s) (λ l t. compounded_quiet l (turn_of o) q just_one t)
+  simple_reads os (x.Assign y q i) s = bind (left_reads os y s) (λ l t. right_reads os l q i t)
+  simple_reads os (x.Compound y o q i) s = bind (left_reads os y s) (λ l t. stores os (seen_spot l) (ends (expr_reads found (Place (seen_spot l) ∷ os) i t) (λ j u. compounded_quiet l (compound_of o) q j u)))
+  simple_reads os (x.After y o q) s = bind (left_reads os y s) (λ l t. stores os (seen_spot l) (quiet (compounded_quiet l (turn_of o) q just_one t)))
+  simple_reads os (x.Before o q y) s = bind (left_reads os y s) (λ l t. stores os (seen_spot l) (quiet (compounded_quiet l (turn_of o) q just_one t)))
 
   -- ---- blocks
   begins_reads : (os : List Open) (s : Typer) → Reads (At os found) s (Begins ∷ []) (λ u. At (Block (count s.names) (count s.tags) ∷ os) found) (Gives (tt {0}) s)

@@ -12,7 +12,7 @@ use Rattle.sa_scopes.specs.Typing.{Typed, Gives, fault}
 use Rattle.sa_typer.specs.Units as unit
 use Rattle.sa_typer.specs.Units.{has_entry, all_items, refusals}
 use Rattle.sa_rules.specs.Events.{Event}
-use Rattle.sa_rules.specs.Rules.{Rule, no_constant, oversized, undeclared, declared_twice, no_type, no_field, unassignable, ill_begun, misqualified, astray, with_place, places, at_if, place_of, refused_by, IsRule, IsMissingMain}
+use Rattle.sa_rules.specs.Rules.{Rule, no_constant, oversized, undeclared, declared_twice, no_type, no_field, unassignable, ill_copied, ill_begun, misqualified, astray, with_place, places, at_if, place_of, refused_by, IsRule, IsMissingMain}
 use Rattle.sa_rules.specs.Sight.{Sight, nothing_seen, see, after}
 use Rattle.sa_rules.specs.Texts.{text}
 use Rattle.sa_rules.proofs.Walks.{is_noted, noted, faults_at, broken, Noted, note, noting, state, value}
@@ -31,8 +31,8 @@ own : (c : ℕ) (o : Option Pos) (rest : List Fault) → (c == c) ≡ true → r
 own c None rest h = refl
 own c (Some p) rest h = ap (λ (b : Bool). cons_option (at_if b p) (refused_by c rest)) h
 
-abbrev all_codes : Option Pos → Option Pos → Option Pos → Option Pos → Option Pos → Option Pos → Option Pos → Option Pos → Option Pos → Option Pos → List Fault
-all_codes y z a b c d e f g h = faults_at 18 y ++ (faults_at 19 z ++ (faults_at 1 a ++ (faults_at 2 b ++ (faults_at 3 c ++ (faults_at 21 d ++ (faults_at 23 e ++ (faults_at 20 f ++ (faults_at 6 g ++ (faults_at 4 h)))))))))
+abbrev all_codes : Option Pos → Option Pos → Option Pos → Option Pos → Option Pos → Option Pos → Option Pos → Option Pos → Option Pos → Option Pos → Option Pos → List Fault
+all_codes x y z a b c d e f g h = faults_at 7 x ++ (faults_at 18 y ++ (faults_at 19 z ++ (faults_at 1 a ++ (faults_at 2 b ++ (faults_at 3 c ++ (faults_at 21 d ++ (faults_at 23 e ++ (faults_at 20 f ++ (faults_at 6 g ++ (faults_at 4 h))))))))))
 
 none_of : (c k : ℕ) (o : Option Pos) → (k == c) ≡ false → refused_by c (faults_at k o) ≡ []
 none_of c k None h = refl
@@ -42,48 +42,52 @@ own_last : (c : ℕ) (o : Option Pos) → (c == c) ≡ true → refused_by c (fa
 own_last c None h = refl
 own_last c (Some p) h = ap (λ (b : Bool). cons_option (at_if b p) []) h
 
-constant_code : (y z a b c d e f g h : Option Pos) → refused_by 18 (all_codes y z a b c d e f g h) ≡ listed y
-constant_code y z a b c d e f g h =
-    own 18 y _ refl ∙ ap (λ (ps : List Pos). listed y ++ ps) (other 18 19 z _ refl ∙ other 18 1 a _ refl ∙ other 18 2 b _ refl ∙ other 18 3 c _ refl ∙ other 18 21 d _ refl ∙ other 18 23 e _ refl ∙ other 18 20 f _ refl ∙ other 18 6 g _ refl ∙ none_of 18 4 h refl) ∙ append-nil (listed y)
+constant_code : (x y z a b c d e f g h : Option Pos) → refused_by 18 (all_codes x y z a b c d e f g h) ≡ listed y
+constant_code x y z a b c d e f g h =
+    other 18 7 x _ refl ∙ own 18 y _ refl ∙ ap (λ (ps : List Pos). listed y ++ ps) (other 18 19 z _ refl ∙ other 18 1 a _ refl ∙ other 18 2 b _ refl ∙ other 18 3 c _ refl ∙ other 18 21 d _ refl ∙ other 18 23 e _ refl ∙ other 18 20 f _ refl ∙ other 18 6 g _ refl ∙ none_of 18 4 h refl) ∙ append-nil (listed y)
 
-size_code : (y z a b c d e f g h : Option Pos) → refused_by 19 (all_codes y z a b c d e f g h) ≡ listed z
-size_code y z a b c d e f g h =
-    other 19 18 y _ refl ∙ own 19 z _ refl ∙ ap (λ (ps : List Pos). listed z ++ ps) (other 19 1 a _ refl ∙ other 19 2 b _ refl ∙ other 19 3 c _ refl ∙ other 19 21 d _ refl ∙ other 19 23 e _ refl ∙ other 19 20 f _ refl ∙ other 19 6 g _ refl ∙ none_of 19 4 h refl) ∙ append-nil (listed z)
+size_code : (x y z a b c d e f g h : Option Pos) → refused_by 19 (all_codes x y z a b c d e f g h) ≡ listed z
+size_code x y z a b c d e f g h =
+    other 19 7 x _ refl ∙ other 19 18 y _ refl ∙ own 19 z _ refl ∙ ap (λ (ps : List Pos). listed z ++ ps) (other 19 1 a _ refl ∙ other 19 2 b _ refl ∙ other 19 3 c _ refl ∙ other 19 21 d _ refl ∙ other 19 23 e _ refl ∙ other 19 20 f _ refl ∙ other 19 6 g _ refl ∙ none_of 19 4 h refl) ∙ append-nil (listed z)
 
-undeclared_code : (y z a b c d e f g h : Option Pos) → refused_by 1 (all_codes y z a b c d e f g h) ≡ listed a
-undeclared_code y z a b c d e f g h =
-    other 1 18 y _ refl ∙ other 1 19 z _ refl ∙ own 1 a _ refl ∙ ap (λ (ps : List Pos). listed a ++ ps) (other 1 2 b _ refl ∙ other 1 3 c _ refl ∙ other 1 21 d _ refl ∙ other 1 23 e _ refl ∙ other 1 20 f _ refl ∙ other 1 6 g _ refl ∙ none_of 1 4 h refl) ∙ append-nil (listed a)
+undeclared_code : (x y z a b c d e f g h : Option Pos) → refused_by 1 (all_codes x y z a b c d e f g h) ≡ listed a
+undeclared_code x y z a b c d e f g h =
+    other 1 7 x _ refl ∙ other 1 18 y _ refl ∙ other 1 19 z _ refl ∙ own 1 a _ refl ∙ ap (λ (ps : List Pos). listed a ++ ps) (other 1 2 b _ refl ∙ other 1 3 c _ refl ∙ other 1 21 d _ refl ∙ other 1 23 e _ refl ∙ other 1 20 f _ refl ∙ other 1 6 g _ refl ∙ none_of 1 4 h refl) ∙ append-nil (listed a)
 
-twice_code : (y z a b c d e f g h : Option Pos) → refused_by 2 (all_codes y z a b c d e f g h) ≡ listed b
-twice_code y z a b c d e f g h =
-    other 2 18 y _ refl ∙ other 2 19 z _ refl ∙ other 2 1 a _ refl ∙ own 2 b _ refl ∙ ap (λ (ps : List Pos). listed b ++ ps) (other 2 3 c _ refl ∙ other 2 21 d _ refl ∙ other 2 23 e _ refl ∙ other 2 20 f _ refl ∙ other 2 6 g _ refl ∙ none_of 2 4 h refl) ∙ append-nil (listed b)
+twice_code : (x y z a b c d e f g h : Option Pos) → refused_by 2 (all_codes x y z a b c d e f g h) ≡ listed b
+twice_code x y z a b c d e f g h =
+    other 2 7 x _ refl ∙ other 2 18 y _ refl ∙ other 2 19 z _ refl ∙ other 2 1 a _ refl ∙ own 2 b _ refl ∙ ap (λ (ps : List Pos). listed b ++ ps) (other 2 3 c _ refl ∙ other 2 21 d _ refl ∙ other 2 23 e _ refl ∙ other 2 20 f _ refl ∙ other 2 6 g _ refl ∙ none_of 2 4 h refl) ∙ append-nil (listed b)
 
-type_code : (y z a b c d e f g h : Option Pos) → refused_by 3 (all_codes y z a b c d e f g h) ≡ listed c
-type_code y z a b c d e f g h =
-    other 3 18 y _ refl ∙ other 3 19 z _ refl ∙ other 3 1 a _ refl ∙ other 3 2 b _ refl ∙ own 3 c _ refl ∙ ap (λ (ps : List Pos). listed c ++ ps) (other 3 21 d _ refl ∙ other 3 23 e _ refl ∙ other 3 20 f _ refl ∙ other 3 6 g _ refl ∙ none_of 3 4 h refl) ∙ append-nil (listed c)
+type_code : (x y z a b c d e f g h : Option Pos) → refused_by 3 (all_codes x y z a b c d e f g h) ≡ listed c
+type_code x y z a b c d e f g h =
+    other 3 7 x _ refl ∙ other 3 18 y _ refl ∙ other 3 19 z _ refl ∙ other 3 1 a _ refl ∙ other 3 2 b _ refl ∙ own 3 c _ refl ∙ ap (λ (ps : List Pos). listed c ++ ps) (other 3 21 d _ refl ∙ other 3 23 e _ refl ∙ other 3 20 f _ refl ∙ other 3 6 g _ refl ∙ none_of 3 4 h refl) ∙ append-nil (listed c)
 
-qualifier_code : (y z a b c d e f g h : Option Pos) → refused_by 21 (all_codes y z a b c d e f g h) ≡ listed d
-qualifier_code y z a b c d e f g h =
-    other 21 18 y _ refl ∙ other 21 19 z _ refl ∙ other 21 1 a _ refl ∙ other 21 2 b _ refl ∙ other 21 3 c _ refl ∙ own 21 d _ refl ∙ ap (λ (ps : List Pos). listed d ++ ps) (other 21 23 e _ refl ∙ other 21 20 f _ refl ∙ other 21 6 g _ refl ∙ none_of 21 4 h refl) ∙ append-nil (listed d)
+qualifier_code : (x y z a b c d e f g h : Option Pos) → refused_by 21 (all_codes x y z a b c d e f g h) ≡ listed d
+qualifier_code x y z a b c d e f g h =
+    other 21 7 x _ refl ∙ other 21 18 y _ refl ∙ other 21 19 z _ refl ∙ other 21 1 a _ refl ∙ other 21 2 b _ refl ∙ other 21 3 c _ refl ∙ own 21 d _ refl ∙ ap (λ (ps : List Pos). listed d ++ ps) (other 21 23 e _ refl ∙ other 21 20 f _ refl ∙ other 21 6 g _ refl ∙ none_of 21 4 h refl) ∙ append-nil (listed d)
 
-wait_code : (y z a b c d e f g h : Option Pos) → refused_by 23 (all_codes y z a b c d e f g h) ≡ listed e
-wait_code y z a b c d e f g h =
-    other 23 18 y _ refl ∙ other 23 19 z _ refl ∙ other 23 1 a _ refl ∙ other 23 2 b _ refl ∙ other 23 3 c _ refl ∙ other 23 21 d _ refl ∙ own 23 e _ refl ∙ ap (λ (ps : List Pos). listed e ++ ps) (other 23 20 f _ refl ∙ other 23 6 g _ refl ∙ none_of 23 4 h refl) ∙ append-nil (listed e)
+wait_code : (x y z a b c d e f g h : Option Pos) → refused_by 23 (all_codes x y z a b c d e f g h) ≡ listed e
+wait_code x y z a b c d e f g h =
+    other 23 7 x _ refl ∙ other 23 18 y _ refl ∙ other 23 19 z _ refl ∙ other 23 1 a _ refl ∙ other 23 2 b _ refl ∙ other 23 3 c _ refl ∙ other 23 21 d _ refl ∙ own 23 e _ refl ∙ ap (λ (ps : List Pos). listed e ++ ps) (other 23 20 f _ refl ∙ other 23 6 g _ refl ∙ none_of 23 4 h refl) ∙ append-nil (listed e)
 
-initialiser_code : (y z a b c d e f g h : Option Pos) → refused_by 20 (all_codes y z a b c d e f g h) ≡ listed f
-initialiser_code y z a b c d e f g h =
-    other 20 18 y _ refl ∙ other 20 19 z _ refl ∙ other 20 1 a _ refl ∙ other 20 2 b _ refl ∙ other 20 3 c _ refl ∙ other 20 21 d _ refl ∙ other 20 23 e _ refl ∙ own 20 f _ refl ∙ ap (λ (ps : List Pos). listed f ++ ps) (other 20 6 g _ refl ∙ none_of 20 4 h refl) ∙ append-nil (listed f)
+initialiser_code : (x y z a b c d e f g h : Option Pos) → refused_by 20 (all_codes x y z a b c d e f g h) ≡ listed f
+initialiser_code x y z a b c d e f g h =
+    other 20 7 x _ refl ∙ other 20 18 y _ refl ∙ other 20 19 z _ refl ∙ other 20 1 a _ refl ∙ other 20 2 b _ refl ∙ other 20 3 c _ refl ∙ other 20 21 d _ refl ∙ other 20 23 e _ refl ∙ own 20 f _ refl ∙ ap (λ (ps : List Pos). listed f ++ ps) (other 20 6 g _ refl ∙ none_of 20 4 h refl) ∙ append-nil (listed f)
 
-assignment_code : (y z a b c d e f g h : Option Pos) → refused_by 6 (all_codes y z a b c d e f g h) ≡ listed g
-assignment_code y z a b c d e f g h =
-    other 6 18 y _ refl ∙ other 6 19 z _ refl ∙ other 6 1 a _ refl ∙ other 6 2 b _ refl ∙ other 6 3 c _ refl ∙ other 6 21 d _ refl ∙ other 6 23 e _ refl ∙ other 6 20 f _ refl ∙ own 6 g _ refl ∙ ap (λ (ps : List Pos). listed g ++ ps) (none_of 6 4 h refl) ∙ append-nil (listed g)
+assignment_code : (x y z a b c d e f g h : Option Pos) → refused_by 6 (all_codes x y z a b c d e f g h) ≡ listed g
+assignment_code x y z a b c d e f g h =
+    other 6 7 x _ refl ∙ other 6 18 y _ refl ∙ other 6 19 z _ refl ∙ other 6 1 a _ refl ∙ other 6 2 b _ refl ∙ other 6 3 c _ refl ∙ other 6 21 d _ refl ∙ other 6 23 e _ refl ∙ other 6 20 f _ refl ∙ own 6 g _ refl ∙ ap (λ (ps : List Pos). listed g ++ ps) (none_of 6 4 h refl) ∙ append-nil (listed g)
 
-field_code : (y z a b c d e f g h : Option Pos) → refused_by 4 (all_codes y z a b c d e f g h) ≡ listed h
-field_code y z a b c d e f g h =
-    other 4 18 y _ refl ∙ other 4 19 z _ refl ∙ other 4 1 a _ refl ∙ other 4 2 b _ refl ∙ other 4 3 c _ refl ∙ other 4 21 d _ refl ∙ other 4 23 e _ refl ∙ other 4 20 f _ refl ∙ other 4 6 g _ refl ∙ own_last 4 h refl
+field_code : (x y z a b c d e f g h : Option Pos) → refused_by 4 (all_codes x y z a b c d e f g h) ≡ listed h
+field_code x y z a b c d e f g h =
+    other 4 7 x _ refl ∙ other 4 18 y _ refl ∙ other 4 19 z _ refl ∙ other 4 1 a _ refl ∙ other 4 2 b _ refl ∙ other 4 3 c _ refl ∙ other 4 21 d _ refl ∙ other 4 23 e _ refl ∙ other 4 20 f _ refl ∙ other 4 6 g _ refl ∙ own_last 4 h refl
 
-no_code : (y z a b c d e f g h : Option Pos) → refused_by 22 (all_codes y z a b c d e f g h) ≡ []
-no_code y z a b c d e f g h = other 22 18 y _ refl ∙ other 22 19 z _ refl ∙ other 22 1 a _ refl ∙ other 22 2 b _ refl ∙ other 22 3 c _ refl ∙ other 22 21 d _ refl ∙ other 22 23 e _ refl ∙ other 22 20 f _ refl ∙ other 22 6 g _ refl ∙ none_of 22 4 h refl
+copy_code : (x y z a b c d e f g h : Option Pos) → refused_by 7 (all_codes x y z a b c d e f g h) ≡ listed x
+copy_code x y z a b c d e f g h =
+    own 7 x _ refl ∙ ap (λ (ps : List Pos). listed x ++ ps) (other 7 18 y _ refl ∙ other 7 19 z _ refl ∙ other 7 1 a _ refl ∙ other 7 2 b _ refl ∙ other 7 3 c _ refl ∙ other 7 21 d _ refl ∙ other 7 23 e _ refl ∙ other 7 20 f _ refl ∙ other 7 6 g _ refl ∙ none_of 7 4 h refl) ∙ append-nil (listed x)
+
+no_code : (x y z a b c d e f g h : Option Pos) → refused_by 22 (all_codes x y z a b c d e f g h) ≡ []
+no_code x y z a b c d e f g h = other 22 7 x _ refl ∙ other 22 18 y _ refl ∙ other 22 19 z _ refl ∙ other 22 1 a _ refl ∙ other 22 2 b _ refl ∙ other 22 3 c _ refl ∙ other 22 21 d _ refl ∙ other 22 23 e _ refl ∙ other 22 20 f _ refl ∙ other 22 6 g _ refl ∙ none_of 22 4 h refl
 
 -- ---- what all events are refused for
 listed_with : (o : Option Pos) (ps : List Pos) → listed o ++ ps ≡ with_place o ps
@@ -130,53 +134,57 @@ unfolding refusals
 but_end c u end h = walk_end c end (all_items u) h
 
 -- ---- which codes are noted
-all_false : (b0 b1 b2 b3 b4 b5 b6 b7 b8 b9 b10 : Bool) → (b0 || b1 || b2 || b3 || b4 || b5 || b6 || b7 || b8 || b9 || b10) ≡ false → (b0 ≡ false) × (b1 ≡ false) × (b2 ≡ false) × (b3 ≡ false) × (b4 ≡ false) × (b5 ≡ false) × (b6 ≡ false) × (b7 ≡ false) × (b8 ≡ false) × (b9 ≡ false) × (b10 ≡ false)
-all_false true b1 b2 b3 b4 b5 b6 b7 b8 b9 b10 h = cc
-all_false false true b2 b3 b4 b5 b6 b7 b8 b9 b10 h = cc
-all_false false false true b3 b4 b5 b6 b7 b8 b9 b10 h = cc
-all_false false false false true b4 b5 b6 b7 b8 b9 b10 h = cc
-all_false false false false false true b5 b6 b7 b8 b9 b10 h = cc
-all_false false false false false false true b6 b7 b8 b9 b10 h = cc
-all_false false false false false false false true b7 b8 b9 b10 h = cc
-all_false false false false false false false false true b8 b9 b10 h = cc
-all_false false false false false false false false false true b9 b10 h = cc
-all_false false false false false false false false false false true b10 h = cc
-all_false false false false false false false false false false false true h = cc
-all_false false false false false false false false false false false false h = (refl, refl, refl, refl, refl, refl, refl, refl, refl, refl, refl)
+all_false : (b0 b1 b2 b3 b4 b5 b6 b7 b8 b9 b10 b11 : Bool) → (b0 || b1 || b2 || b3 || b4 || b5 || b6 || b7 || b8 || b9 || b10 || b11) ≡ false → (b0 ≡ false) × (b1 ≡ false) × (b2 ≡ false) × (b3 ≡ false) × (b4 ≡ false) × (b5 ≡ false) × (b6 ≡ false) × (b7 ≡ false) × (b8 ≡ false) × (b9 ≡ false) × (b10 ≡ false) × (b11 ≡ false)
+all_false true b1 b2 b3 b4 b5 b6 b7 b8 b9 b10 b11 h = cc
+all_false false true b2 b3 b4 b5 b6 b7 b8 b9 b10 b11 h = cc
+all_false false false true b3 b4 b5 b6 b7 b8 b9 b10 b11 h = cc
+all_false false false false true b4 b5 b6 b7 b8 b9 b10 b11 h = cc
+all_false false false false false true b5 b6 b7 b8 b9 b10 b11 h = cc
+all_false false false false false false true b6 b7 b8 b9 b10 b11 h = cc
+all_false false false false false false false true b7 b8 b9 b10 b11 h = cc
+all_false false false false false false false false true b8 b9 b10 b11 h = cc
+all_false false false false false false false false false true b9 b10 b11 h = cc
+all_false false false false false false false false false false true b10 b11 h = cc
+all_false false false false false false false false false false false true b11 h = cc
+all_false false false false false false false false false false false false true h = cc
+all_false false false false false false false false false false false false false h = (refl, refl, refl, refl, refl, refl, refl, refl, refl, refl, refl, refl)
 
-is_own_code : (k : ℕ) → is_noted k ≡ false → ((k == 18) ≡ false) × ((k == 19) ≡ false) × ((k == 1) ≡ false) × ((k == 2) ≡ false) × ((k == 3) ≡ false) × ((k == 21) ≡ false) × ((k == 22) ≡ false) × ((k == 23) ≡ false) × ((k == 20) ≡ false) × ((k == 6) ≡ false) × ((k == 4) ≡ false)
-is_own_code k h = all_false (k == 18) (k == 19) (k == 1) (k == 2) (k == 3) (k == 21) (k == 22) (k == 23) (k == 20) (k == 6) (k == 4) h
+is_own_code : (k : ℕ) → is_noted k ≡ false → ((k == 18) ≡ false) × ((k == 19) ≡ false) × ((k == 1) ≡ false) × ((k == 2) ≡ false) × ((k == 3) ≡ false) × ((k == 21) ≡ false) × ((k == 22) ≡ false) × ((k == 23) ≡ false) × ((k == 20) ≡ false) × ((k == 6) ≡ false) × ((k == 4) ≡ false) × ((k == 7) ≡ false)
+is_own_code k h = all_false (k == 18) (k == 19) (k == 1) (k == 2) (k == 3) (k == 21) (k == 22) (k == 23) (k == 20) (k == 6) (k == 4) (k == 7) h
 
 -- ---- the rules
 pub constant_rule : IsRule 18 no_constant
-constant_rule u end = but_end 18 u end refl ∙ walk_refused 18 no_constant (λ m e. constant_code (no_constant m e) (oversized m e) (undeclared m e) (declared_twice m e) (no_type m e) (misqualified m e) (astray m e) (ill_begun m e) (unassignable m e) (no_field m e)) (λ k n. (is_own_code k n).0) u
+constant_rule u end = but_end 18 u end refl ∙ walk_refused 18 no_constant (λ m e. constant_code (ill_copied m e) (no_constant m e) (oversized m e) (undeclared m e) (declared_twice m e) (no_type m e) (misqualified m e) (astray m e) (ill_begun m e) (unassignable m e) (no_field m e)) (λ k n. (is_own_code k n).0) u
 
 pub size_rule : IsRule 19 oversized
-size_rule u end = but_end 19 u end refl ∙ walk_refused 19 oversized (λ m e. size_code (no_constant m e) (oversized m e) (undeclared m e) (declared_twice m e) (no_type m e) (misqualified m e) (astray m e) (ill_begun m e) (unassignable m e) (no_field m e)) (λ k n. (is_own_code k n).1) u
+size_rule u end = but_end 19 u end refl ∙ walk_refused 19 oversized (λ m e. size_code (ill_copied m e) (no_constant m e) (oversized m e) (undeclared m e) (declared_twice m e) (no_type m e) (misqualified m e) (astray m e) (ill_begun m e) (unassignable m e) (no_field m e)) (λ k n. (is_own_code k n).1) u
 
 pub undeclared_rule : IsRule 1 undeclared
-undeclared_rule u end = but_end 1 u end refl ∙ walk_refused 1 undeclared (λ m e. undeclared_code (no_constant m e) (oversized m e) (undeclared m e) (declared_twice m e) (no_type m e) (misqualified m e) (astray m e) (ill_begun m e) (unassignable m e) (no_field m e)) (λ k n. (is_own_code k n).2) u
+undeclared_rule u end = but_end 1 u end refl ∙ walk_refused 1 undeclared (λ m e. undeclared_code (ill_copied m e) (no_constant m e) (oversized m e) (undeclared m e) (declared_twice m e) (no_type m e) (misqualified m e) (astray m e) (ill_begun m e) (unassignable m e) (no_field m e)) (λ k n. (is_own_code k n).2) u
 
 pub twice_rule : IsRule 2 declared_twice
-twice_rule u end = but_end 2 u end refl ∙ walk_refused 2 declared_twice (λ m e. twice_code (no_constant m e) (oversized m e) (undeclared m e) (declared_twice m e) (no_type m e) (misqualified m e) (astray m e) (ill_begun m e) (unassignable m e) (no_field m e)) (λ k n. (is_own_code k n).3) u
+twice_rule u end = but_end 2 u end refl ∙ walk_refused 2 declared_twice (λ m e. twice_code (ill_copied m e) (no_constant m e) (oversized m e) (undeclared m e) (declared_twice m e) (no_type m e) (misqualified m e) (astray m e) (ill_begun m e) (unassignable m e) (no_field m e)) (λ k n. (is_own_code k n).3) u
 
 pub type_rule : IsRule 3 no_type
-type_rule u end = but_end 3 u end refl ∙ walk_refused 3 no_type (λ m e. type_code (no_constant m e) (oversized m e) (undeclared m e) (declared_twice m e) (no_type m e) (misqualified m e) (astray m e) (ill_begun m e) (unassignable m e) (no_field m e)) (λ k n. (is_own_code k n).4) u
+type_rule u end = but_end 3 u end refl ∙ walk_refused 3 no_type (λ m e. type_code (ill_copied m e) (no_constant m e) (oversized m e) (undeclared m e) (declared_twice m e) (no_type m e) (misqualified m e) (astray m e) (ill_begun m e) (unassignable m e) (no_field m e)) (λ k n. (is_own_code k n).4) u
 
 pub qualifier_rule : IsRule 21 misqualified
-qualifier_rule u end = but_end 21 u end refl ∙ walk_refused 21 misqualified (λ m e. qualifier_code (no_constant m e) (oversized m e) (undeclared m e) (declared_twice m e) (no_type m e) (misqualified m e) (astray m e) (ill_begun m e) (unassignable m e) (no_field m e)) (λ k n. (is_own_code k n).5) u
+qualifier_rule u end = but_end 21 u end refl ∙ walk_refused 21 misqualified (λ m e. qualifier_code (ill_copied m e) (no_constant m e) (oversized m e) (undeclared m e) (declared_twice m e) (no_type m e) (misqualified m e) (astray m e) (ill_begun m e) (unassignable m e) (no_field m e)) (λ k n. (is_own_code k n).5) u
 
 pub wait_rule : IsRule 23 astray
-wait_rule u end = but_end 23 u end refl ∙ walk_refused 23 astray (λ m e. wait_code (no_constant m e) (oversized m e) (undeclared m e) (declared_twice m e) (no_type m e) (misqualified m e) (astray m e) (ill_begun m e) (unassignable m e) (no_field m e)) (λ k n. (is_own_code k n).7) u
+wait_rule u end = but_end 23 u end refl ∙ walk_refused 23 astray (λ m e. wait_code (ill_copied m e) (no_constant m e) (oversized m e) (undeclared m e) (declared_twice m e) (no_type m e) (misqualified m e) (astray m e) (ill_begun m e) (unassignable m e) (no_field m e)) (λ k n. (is_own_code k n).7) u
 
 pub initialiser_rule : IsRule 20 ill_begun
-initialiser_rule u end = but_end 20 u end refl ∙ walk_refused 20 ill_begun (λ m e. initialiser_code (no_constant m e) (oversized m e) (undeclared m e) (declared_twice m e) (no_type m e) (misqualified m e) (astray m e) (ill_begun m e) (unassignable m e) (no_field m e)) (λ k n. (is_own_code k n).8) u
+initialiser_rule u end = but_end 20 u end refl ∙ walk_refused 20 ill_begun (λ m e. initialiser_code (ill_copied m e) (no_constant m e) (oversized m e) (undeclared m e) (declared_twice m e) (no_type m e) (misqualified m e) (astray m e) (ill_begun m e) (unassignable m e) (no_field m e)) (λ k n. (is_own_code k n).8) u
 
 pub assignment_rule : IsRule 6 unassignable
-assignment_rule u end = but_end 6 u end refl ∙ walk_refused 6 unassignable (λ m e. assignment_code (no_constant m e) (oversized m e) (undeclared m e) (declared_twice m e) (no_type m e) (misqualified m e) (astray m e) (ill_begun m e) (unassignable m e) (no_field m e)) (λ k n. (is_own_code k n).9) u
+assignment_rule u end = but_end 6 u end refl ∙ walk_refused 6 unassignable (λ m e. assignment_code (ill_copied m e) (no_constant m e) (oversized m e) (undeclared m e) (declared_twice m e) (no_type m e) (misqualified m e) (astray m e) (ill_begun m e) (unassignable m e) (no_field m e)) (λ k n. (is_own_code k n).9) u
 
 pub field_rule : IsRule 4 no_field
-field_rule u end = but_end 4 u end refl ∙ walk_refused 4 no_field (λ m e. field_code (no_constant m e) (oversized m e) (undeclared m e) (declared_twice m e) (no_type m e) (misqualified m e) (astray m e) (ill_begun m e) (unassignable m e) (no_field m e)) (λ k n. (is_own_code k n).10) u
+field_rule u end = but_end 4 u end refl ∙ walk_refused 4 no_field (λ m e. field_code (ill_copied m e) (no_constant m e) (oversized m e) (undeclared m e) (declared_twice m e) (no_type m e) (misqualified m e) (astray m e) (ill_begun m e) (unassignable m e) (no_field m e)) (λ k n. (is_own_code k n).10) u
+
+pub copy_rule : IsRule 7 ill_copied
+copy_rule u end = but_end 7 u end refl ∙ walk_refused 7 ill_copied (λ m e. copy_code (ill_copied m e) (no_constant m e) (oversized m e) (undeclared m e) (declared_twice m e) (no_type m e) (misqualified m e) (astray m e) (ill_begun m e) (unassignable m e) (no_field m e)) (λ k n. (is_own_code k n).11) u
 
 -- ---- main
 abbrev never : Rule
@@ -200,4 +208,4 @@ pub main_rule : IsMissingMain
 unfolding refusals
 main_rule u end =
     main_end end (after nothing_seen (text u)).entry (all_items u) (whole u).entry
-    (walk_refused 22 never (λ m e. no_code (no_constant m e) (oversized m e) (undeclared m e) (declared_twice m e) (no_type m e) (misqualified m e) (astray m e) (ill_begun m e) (unassignable m e) (no_field m e)) (λ k n. (is_own_code k n).6) u ∙ never_places nothing_seen (text u))
+    (walk_refused 22 never (λ m e. no_code (ill_copied m e) (no_constant m e) (oversized m e) (undeclared m e) (declared_twice m e) (no_type m e) (misqualified m e) (astray m e) (ill_begun m e) (unassignable m e) (no_field m e)) (λ k n. (is_own_code k n).6) u ∙ never_places nothing_seen (text u))

@@ -9,11 +9,13 @@ pub mod Dimensions
 pub mod Places
 pub mod Trees
 pub mod Declared
+pub mod PlainParts
 pub mod Blocks
 pub mod Sources
 pub mod Counts
 pub mod Exact
 pub mod SiteWalks
 pub mod SiteParts
+pub mod SiteOperands
 pub mod SiteTrees
 pub mod SiteTexts

@@ -53,58 +53,56 @@ use Rattle.sa_typer.specs.Statements.{to_number, to_struct, to_form, assigned, c
 use Rattle.sa_scopes.specs.Types.{qualifier, qualifiers, is_misplaced, scalar, defined, tagged, type_name, not_void}
 use Rattle.sa_scopes.specs.Typing.{fault}
 use Rattle.sa_operands.specs.Places.{access}
-use Rattle.sa_rules.specs.Sites.{is_sited, of_dimension, of_item}
-use Rattle.sa_rules.proofs.SiteWalks.{Adds, Sub, sub_head, sub_rest, adds_none, adds_refusal, adds_then, adds_unless, adds_if, adds_by, adds_each}
+use Rattle.sa_rules.specs.Sites.{of_begin}
+use Rattle.sa_rules.proofs.SiteWalks.{Adds, Sub, sub_head, adds_none, adds_refusal, adds_other, adds_then, adds_unless, other_unless, adds_if, adds_by, adds_each}
 
--- the refusals with other codes are P all the same
-module _ (P : Fault → Type 0) (free : (k : ℕ) (q : Pos) → is_sited k ≡ false → P (fault k q)) where
-  pub refusal : {A : Type 0} {s : Typer} {x : A} (k : ℕ) (q : Pos) → is_sited k ≡ false → Adds P s (Gives x (refused k q s))
-  refusal k q h = adds_refusal P k q (free k q h)
-
-  pub unless : {s : Typer} (b : Bool) (k : ℕ) (q : Pos) → is_sited k ≡ false → Adds P s (refuse_if b k q s)
-  unless b k q h = adds_unless P b k q (free k q h)
+module _ (P : Pos → Type 0) where
+  -- an operand that no operator takes is refused at its name
+  abbrev pub OperandAt : Operand → Type 0
+  OperandAt (a.Struct x k fixed p) = P p
+  OperandAt (a.Array p) = P p
+  OperandAt _ = Unit {0}
 
   -- ---- constants
-  constant_adds : (p : Pos) (x : Value) (s : Typer) → P (fault 18 p) → Adds P s (constant p x s)
-  constant_adds p v.Varies s h = adds_refusal P 18 p h
-  constant_adds p v.Errs s h = adds_refusal P 18 p h
-  constant_adds p v.Unknown s h = adds_none P
-  constant_adds p (v.Is c) s h = adds_none P
+  constant_adds : (p : Pos) (x : Value) (s : Typer) → Adds P s (constant p x s)
+  constant_adds p v.Varies s = adds_other P 18 p refl
+  constant_adds p v.Errs s = adds_other P 18 p refl
+  constant_adds p v.Unknown s = adds_none P
+  constant_adds p (v.Is c) s = adds_none P
 
-  no_object_adds : (x : Operand) (s : Typer) → Adds P s (no_object x s)
-  no_object_adds (a.Number e num x) s = adds_none P
-  no_object_adds (a.Struct x k fixed p) s = refusal 5 p refl
-  no_object_adds (a.Array p) s = refusal 5 p refl
-  no_object_adds a.Unknown s = adds_none P
+  no_object_adds : (x : Operand) (s : Typer) → OperandAt x → Adds P s (no_object x s)
+  no_object_adds (a.Number e num x) s h = adds_none P
+  no_object_adds (a.Struct x k fixed p) s h = adds_refusal P p h
+  no_object_adds (a.Array p) s h = adds_refusal P p h
+  no_object_adds a.Unknown s h = adds_none P
 
-  dimension_by_adds : (p : Pos) (o : Option ℤ) (s : Typer) → P (fault 19 p) → Adds P s (dimension_by p o s)
-  dimension_by_adds p None s h = adds_none P
-  dimension_by_adds p (Some z) s h = adds_if P (is_dimension z) _ _ (adds_none P) (adds_refusal P 19 p h)
+  dimension_by_adds : (p : Pos) (o : Option ℤ) (s : Typer) → Adds P s (dimension_by p o s)
+  dimension_by_adds p None s = adds_none P
+  dimension_by_adds p (Some z) s = adds_if P (is_dimension z) _ _ (adds_none P) (adds_other P 19 p refl)
 
-  pub dimension_adds : (p : Pos) (x : Operand) (s : Typer) → Sub P (of_dimension p) → Adds P s (dimension p x s)
+  pub dimension_adds : (p : Pos) (x : Operand) (s : Typer) → OperandAt x → Adds P s (dimension p x s)
   unfolding dimension
   dimension_adds p x s h =
-      adds_then P (no_object_adds x s) (λ a t. adds_then P (constant_adds p (known_value x) t (sub_head (fault 18 p) (fault 19 p ∷ []) h))
-      (λ o u. dimension_by_adds p o u (sub_head (fault 19 p) [] (sub_rest (fault 18 p) (fault 19 p ∷ []) h))))
+      adds_then P (no_object_adds x s h) (λ a t. adds_then P (constant_adds p (known_value x) t) (λ o u. dimension_by_adds p o u))
 
-  within_adds : (p : Pos) (num : Num) (o : Option ℤ) (s : Typer) → P (fault 20 p) → Adds P s (within p num o s)
-  within_adds p num None s h = adds_none P
-  within_adds p num (Some z) s h = adds_if P (is_of num z) _ _ (adds_none P) (adds_refusal P 20 p h)
+  within_adds : (p : Pos) (num : Num) (o : Option ℤ) (s : Typer) → Adds P s (within p num o s)
+  within_adds p num None s = adds_none P
+  within_adds p num (Some z) s = adds_if P (is_of num z) _ _ (adds_none P) (adds_other P 20 p refl)
 
-  item_adds : (p : Pos) (num : Num) (x : Operand) (s : Typer) → P (fault 18 p) → P (fault 20 p) → Adds P s (item p num x s)
+  item_adds : (p : Pos) (num : Num) (x : Operand) (s : Typer) → OperandAt x → Adds P s (item p num x s)
   unfolding item
-  item_adds p num x s h k = adds_then P (no_object_adds x s) (λ a t. adds_then P (constant_adds p (known_value x) t h) (λ o u. within_adds p num o u k))
+  item_adds p num x s h = adds_then P (no_object_adds x s h) (λ a t. adds_then P (constant_adds p (known_value x) t) (λ o u. within_adds p num o u))
 
-  pub valued_adds : (p : Pos) (f : Form) (x : Operand) (zs : List ℤ) (s : Typer) → Sub P (of_item p) → Adds P s (valued p f x zs s)
+  pub valued_adds : (p : Pos) (f : Form) (x : Operand) (zs : List ℤ) (s : Typer) → OperandAt x → Adds P s (valued p f x zs s)
   valued_adds p (form.Scalar num) x zs s h =
-      adds_then P (item_adds p num x s (sub_head (fault 18 p) (fault 20 p ∷ []) h) (sub_head (fault 20 p) [] (sub_rest (fault 18 p) (fault 20 p ∷ []) h))) (λ z t. adds_none P)
-  valued_adds p (form.Struct k) x zs s h = adds_refusal P 20 p (sub_head (fault 20 p) [] (sub_rest (fault 18 p) (fault 20 p ∷ []) h))
-  valued_adds p (form.Array m) x zs s h = adds_refusal P 20 p (sub_head (fault 20 p) [] (sub_rest (fault 18 p) (fault 20 p ∷ []) h))
+      adds_then P (item_adds p num x s h) (λ z t. adds_none P)
+  valued_adds p (form.Struct k) x zs s h = adds_other P 20 p refl
+  valued_adds p (form.Array m) x zs s h = adds_other P 20 p refl
 
-  pub begun_with_adds : (p q : Pos) (f : Form) (x : Operand) (s : Typer) → P (fault 20 q) → Adds P s (begun_with p q f x s)
-  begun_with_adds p q (form.Scalar num) x s h = adds_then P (unless (is_object (sort_of x)) 5 p refl) (λ a t. adds_none P)
-  begun_with_adds p q (form.Struct k) x s h = adds_refusal P 20 q h
-  begun_with_adds p q (form.Array m) x s h = adds_refusal P 20 q h
+  pub begun_with_adds : (p q : Pos) (f : Form) (x : Operand) (s : Typer) → P p → Adds P s (begun_with p q f x s)
+  begun_with_adds p q (form.Scalar num) x s h = adds_then P (adds_unless P (is_object (sort_of x)) p h) (λ a t. adds_none P)
+  begun_with_adds p q (form.Struct k) x s h = adds_other P 20 q refl
+  begun_with_adds p q (form.Array m) x s h = adds_other P 20 q refl
 
   -- ---- operators
   threshold_adds : (o : Option ℕ) (s : Typer) → Adds P s (with_threshold o s)
@@ -115,101 +113,101 @@ module _ (P : Fault → Type 0) (free : (k : ℕ) (q : Pos) → is_sited k ≡ f
   unfolding beside
   beside_adds op x s = adds_if P (is_comparison op) _ _ (threshold_adds (by_itself true x) s) (adds_none P)
 
-  no_number_adds : (p : Pos) (x : Sort) (s : Typer) → Adds P s (no_number p x s)
-  no_number_adds p x s = adds_then P (unless (is_object x) 5 p refl) (λ a t. adds_none P)
+  no_number_adds : (p : Pos) (x : Sort) (s : Typer) → P p → Adds P s (no_number p x s)
+  no_number_adds p x s h = adds_then P (adds_unless P (is_object x) p h) (λ a t. adds_none P)
 
-  pub prefixed_adds : (op : Prefix) (p : Pos) (x : Operand) (s : Typer) → Adds P s (prefixed op p x s)
-  prefixed_adds op p (a.Number e num x) s = adds_none P
-  prefixed_adds op p (a.Struct x k fixed q) s = no_number_adds p sort.Object s
-  prefixed_adds op p (a.Array q) s = no_number_adds p sort.Object s
-  prefixed_adds op p a.Unknown s = no_number_adds p sort.Unknown s
+  pub prefixed_adds : (op : Prefix) (p : Pos) (x : Operand) (s : Typer) → P p → Adds P s (prefixed op p x s)
+  prefixed_adds op p (a.Number e num x) s h = adds_none P
+  prefixed_adds op p (a.Struct x k fixed q) s h = no_number_adds p sort.Object s h
+  prefixed_adds op p (a.Array q) s h = no_number_adds p sort.Object s h
+  prefixed_adds op p a.Unknown s h = no_number_adds p sort.Unknown s h
 
-  cast_to_adds : (p : Pos) (num : Num) (x : Operand) (s : Typer) → Adds P s (cast_to p num x s)
-  cast_to_adds p num (a.Number e from x) s = adds_none P
-  cast_to_adds p num (a.Struct x k fixed q) s = no_number_adds p sort.Object s
-  cast_to_adds p num (a.Array q) s = no_number_adds p sort.Object s
-  cast_to_adds p num a.Unknown s = no_number_adds p sort.Unknown s
+  cast_to_adds : (p : Pos) (num : Num) (x : Operand) (s : Typer) → P p → Adds P s (cast_to p num x s)
+  cast_to_adds p num (a.Number e from x) s h = adds_none P
+  cast_to_adds p num (a.Struct x k fixed q) s h = no_number_adds p sort.Object s h
+  cast_to_adds p num (a.Array q) s h = no_number_adds p sort.Object s h
+  cast_to_adds p num a.Unknown s h = no_number_adds p sort.Unknown s h
 
-  miscast_adds : (p : Pos) (x : Operand) (s : Typer) → Adds P s (miscast p x s)
-  miscast_adds p (a.Number e from x) s = adds_none P
-  miscast_adds p (a.Struct x k fixed q) s = no_number_adds p sort.Object s
-  miscast_adds p (a.Array q) s = no_number_adds p sort.Object s
-  miscast_adds p a.Unknown s = no_number_adds p sort.Unknown s
+  miscast_adds : (p : Pos) (x : Operand) (s : Typer) → P p → Adds P s (miscast p x s)
+  miscast_adds p (a.Number e from x) s h = adds_none P
+  miscast_adds p (a.Struct x k fixed q) s h = no_number_adds p sort.Object s h
+  miscast_adds p (a.Array q) s h = no_number_adds p sort.Object s h
+  miscast_adds p a.Unknown s h = no_number_adds p sort.Unknown s h
 
-  pub cast_adds : (p : Pos) (e : Element) (x : Operand) (s : Typer) → Adds P s (cast p e x s)
+  pub cast_adds : (p : Pos) (e : Element) (x : Operand) (s : Typer) → P p → Adds P s (cast p e x s)
   unfolding cast
-  cast_adds p (el.Scalar num) x s = cast_to_adds p num x s
-  cast_adds p (el.Struct k) x s = adds_then P {A = Unit {0}} (refusal {x = tt} 5 p refl) (λ b t. miscast_adds p x t)
-  cast_adds p el.Void x s = miscast_adds p x s
-  cast_adds p el.Unknown x s = miscast_adds p x s
+  cast_adds p (el.Scalar num) x s h = cast_to_adds p num x s h
+  cast_adds p (el.Struct k) x s h = adds_then P {A = Unit {0}} (adds_refusal P {a = tt} p h) (λ b t. miscast_adds p x t h)
+  cast_adds p el.Void x s h = miscast_adds p x s h
+  cast_adds p el.Unknown x s h = miscast_adds p x s h
 
-  linked_number_adds : (op : from.Operator) (p : Pos) (l : Left) (e : Expr) (num : Num) (x : Value) (k : Sort) (s : Typer) → l.sort ≡ k → Adds P s (linked op p l (a.Number e num x) s)
+  linked_number_adds : (op : from.Operator) (p : Pos) (l : Left) (e : Expr) (num : Num) (x : Value) (k : Sort) (s : Typer) → l.sort ≡ k → P p → Adds P s (linked op p l (a.Number e num x) s)
   unfolding linked
-  linked_number_adds op p l e num x (sort.Number before) s h = rw h (adds_none P)
-  linked_number_adds op p l e num x sort.Object s h = rw h (refusal 5 p refl)
-  linked_number_adds op p l e num x sort.Unknown s h = rw h (adds_none P)
+  linked_number_adds op p l e num x (sort.Number before) s e1 h = rw e1 (adds_none P)
+  linked_number_adds op p l e num x sort.Object s e1 h = rw e1 (adds_refusal P p h)
+  linked_number_adds op p l e num x sort.Unknown s e1 h = rw e1 (adds_none P)
 
-  pub linked_adds : (op : from.Operator) (p : Pos) (l : Left) (x : Operand) (s : Typer) → Adds P s (linked op p l x s)
+  pub linked_adds : (op : from.Operator) (p : Pos) (l : Left) (x : Operand) (s : Typer) → P p → Adds P s (linked op p l x s)
   unfolding linked
-  linked_adds op p l (a.Number e num x) s = linked_number_adds op p l e num x l.sort s refl
-  linked_adds op p l (a.Struct x k fixed q) s = refusal 5 p refl
-  linked_adds op p l (a.Array q) s = refusal 5 p refl
-  linked_adds op p l a.Unknown s = adds_then P (unless (is_object l.sort) 5 p refl) (λ b t. adds_none P)
+  linked_adds op p l (a.Number e num x) s h = linked_number_adds op p l e num x l.sort s refl h
+  linked_adds op p l (a.Struct x k fixed q) s h = adds_refusal P p h
+  linked_adds op p l (a.Array q) s h = adds_refusal P p h
+  linked_adds op p l a.Unknown s h = adds_then P (adds_unless P (is_object l.sort) p h) (λ b t. adds_none P)
 
   -- ---- places
-  root_adds : (p : Pos) (o : Option named.Named) (s : Typer) → Adds P s (root_by p o s)
-  root_adds p None s = refusal 1 p refl
-  root_adds p (Some (n.Variable k)) s = adds_none P
-  root_adds p (Some (n.Input k num)) s = adds_none P
-  root_adds p (Some (n.Alias ty)) s = refusal 5 p refl
-  root_adds p (Some n.Function) s = refusal 5 p refl
+  root_adds : (p : Pos) (o : Option named.Named) (s : Typer) → P p → Adds P s (root_by p o s)
+  root_adds p None s h = adds_other P 1 p refl
+  root_adds p (Some (n.Variable k)) s h = adds_none P
+  root_adds p (Some (n.Input k num)) s h = adds_none P
+  root_adds p (Some (n.Alias ty)) s h = adds_refusal P p h
+  root_adds p (Some n.Function) s h = adds_refusal P p h
 
-  pointed_adds : (star p : Pos) (o : Option named.Named) (s : Typer) → Adds P s (pointed_by star p o s)
-  pointed_adds star p None s = refusal 1 p refl
-  pointed_adds star p (Some m) s = refusal 5 star refl
+  pointed_adds : (star p : Pos) (o : Option named.Named) (s : Typer) → P star → Adds P s (pointed_by star p o s)
+  pointed_adds star p None s h = adds_other P 1 p refl
+  pointed_adds star p (Some m) s h = adds_refusal P star h
 
-  pub begins_adds : (b : PlaceBase) (s : Typer) → Adds P s (begins b s)
+  pub begins_adds : (b : PlaceBase) (s : Typer) → Sub P (of_begin b) → Adds P s (begins b s)
   unfolding begins
-  begins_adds (base.Name x) s = adds_then P (root_adds x.pos (meaning_of s.names x.text) s) (λ r u. adds_none P)
-  begins_adds (base.Through p star x) s = adds_then P (pointed_adds star x.pos (meaning_of s.names x.text) s) (λ r u. adds_none P)
-  begins_adds (base.Star star x) s = adds_then P (pointed_adds star x.pos (meaning_of s.names x.text) s) (λ r u. adds_none P)
+  begins_adds (base.Name x) s h = adds_then P (root_adds x.pos (meaning_of s.names x.text) s (sub_head x.pos [] h)) (λ r u. adds_none P)
+  begins_adds (base.Through p star x) s h = adds_then P (pointed_adds star x.pos (meaning_of s.names x.text) s (sub_head star [] h)) (λ r u. adds_none P)
+  begins_adds (base.Star star x) s h = adds_then P (pointed_adds star x.pos (meaning_of s.names x.text) s (sub_head star [] h)) (λ r u. adds_none P)
 
-  element_adds : (p : Pos) (i : Expr) (o : Option Form) (l : Spot) (s : Typer) → Adds P s (element_of p i o l s)
-  element_adds p i None l s = adds_none P
-  element_adds p i (Some (form.Array count)) l s = adds_none P
-  element_adds p i (Some (form.Scalar num)) l s = refusal 5 p refl
-  element_adds p i (Some (form.Struct k)) l s = refusal 5 p refl
+  element_adds : (p : Pos) (i : Expr) (o : Option Form) (l : Spot) (s : Typer) → P p → Adds P s (element_of p i o l s)
+  element_adds p i None l s h = adds_none P
+  element_adds p i (Some (form.Array count)) l s h = adds_none P
+  element_adds p i (Some (form.Scalar num)) l s h = adds_refusal P p h
+  element_adds p i (Some (form.Struct k)) l s h = adds_refusal P p h
 
-  pub index_adds : (p : Pos) (i : Operand) (l : Spot) (s : Typer) → Adds P s (index p i l s)
+  pub index_adds : (p : Pos) (i : Operand) (l : Spot) (s : Typer) → P p → Adds P s (index p i l s)
   unfolding index
-  index_adds p i l s = adds_then P (unless (is_object (sort_of i)) 5 p refl) (λ a t. element_adds p (expr_or i) (form_at l) (indexed_with i l) t)
+  index_adds p i l s h = adds_then P (adds_unless P (is_object (sort_of i)) p h) (λ a t. element_adds p (expr_or i) (form_at l) (indexed_with i l) t h)
 
-  member_adds : (p : Pos) (o : Option Member) (l : Spot) (s : Typer) → P (fault 4 p) → Adds P s (to_member p o l s)
-  member_adds p None l s h = adds_refusal P 4 p h
-  member_adds p (Some m) l s h = adds_none P
+  member_adds : (p : Pos) (o : Option Member) (l : Spot) (s : Typer) → Adds P s (to_member p o l s)
+  member_adds p None l s = adds_other P 4 p refl
+  member_adds p (Some m) l s = adds_none P
 
-  field_of_adds : (p : Pos) (x : Name) (o : Option Form) (l : Spot) (s : Typer) → P (fault 4 x.pos) → Adds P s (field_of p x o l s)
+  field_of_adds : (p : Pos) (x : Name) (o : Option Form) (l : Spot) (s : Typer) → P p → Adds P s (field_of p x o l s)
   field_of_adds p x None l s h = adds_none P
-  field_of_adds p x (Some (form.Struct k)) l s h = member_adds x.pos (member_of s.structs k x.text) l s h
-  field_of_adds p x (Some (form.Scalar num)) l s h = refusal 5 p refl
-  field_of_adds p x (Some (form.Array count)) l s h = refusal 5 p refl
+  field_of_adds p x (Some (form.Struct k)) l s h = member_adds x.pos (member_of s.structs k x.text) l s
+  field_of_adds p x (Some (form.Scalar num)) l s h = adds_refusal P p h
+  field_of_adds p x (Some (form.Array count)) l s h = adds_refusal P p h
 
-  pub field_adds : (p : Pos) (x : Name) (l : Spot) (s : Typer) → P (fault 4 x.pos) → Adds P s (field p x l s)
+  pub field_adds : (p : Pos) (x : Name) (l : Spot) (s : Typer) → P p → Adds P s (field p x l s)
   unfolding field
   field_adds p x l s h = field_of_adds p x (form_at l) l s h
 
-  pub arrow_adds : (p : Pos) (l : Spot) (s : Typer) → Adds P s (arrow p l s)
+  pub arrow_adds : (p : Pos) (l : Spot) (s : Typer) → P p → Adds P s (arrow p l s)
   unfolding arrow
-  arrow_adds p l s = adds_then P (unless (is_known l.shape) 5 p refl) (λ a t. adds_none P)
+  arrow_adds p l s h = adds_then P (adds_unless P (is_known l.shape) p h) (λ a t. adds_none P)
 
   -- ---- types
   pub scalar_adds : (p : Pos) (o : Option Num) (s : Typer) → Adds P s (scalar p o s)
-  scalar_adds p None s = refusal 3 p refl
+  scalar_adds p None s = adds_other P 3 p refl
   scalar_adds p (Some num) s = adds_none P
 
   defined_adds : (p : Pos) (o : Option Tagged) (s : Typer) → Adds P s (defined p o s)
-  defined_adds p None s = refusal 3 p refl
-  defined_adds p (Some t.Open) s = refusal 3 p refl
+  defined_adds p None s = adds_other P 3 p refl
+  defined_adds p (Some t.Open) s = adds_other P 3 p refl
   defined_adds p (Some (t.Struct k)) s = adds_none P
 
   pub tagged_adds : (p : Pos) (x : Name) (s : Typer) → Adds P s (tagged p x s)
@@ -221,7 +219,7 @@ module _ (P : Fault → Type 0) (free : (k : ℕ) (q : Pos) → is_sited k ≡ f
   type_name_adds x s = adds_none P
 
   not_void_by : (p : Pos) (e : Element) (c : Bool) (s : Typer) → Adds P s (not_void p (record { element = e; constant = c }) s)
-  not_void_by p el.Void c s = refusal 3 p refl
+  not_void_by p el.Void c s = adds_other P 3 p refl
   not_void_by p (el.Scalar num) c s = adds_none P
   not_void_by p (el.Struct k) c s = adds_none P
   not_void_by p el.Unknown c s = adds_none P
@@ -231,13 +229,13 @@ module _ (P : Fault → Type 0) (free : (k : ℕ) (q : Pos) → is_sited k ≡ f
 
   pub qualifiers_adds : (volatile static : Bool) (qs : List Qualified) (s : Typer) → Adds P s (qualifiers volatile static qs s)
   unfolding qualifiers
-  qualifiers_adds volatile static qs s = adds_each P (qualifier volatile static) (λ q u s. unless (is_misplaced volatile static q.word) 21 q.pos refl) qs tt s
+  qualifiers_adds volatile static qs s = adds_each P (qualifier volatile static) (λ q u s. other_unless P (is_misplaced volatile static q.word) 21 q.pos refl) qs tt s
 
   -- ---- declarations
   pub opened_adds : (tag : Option Name) (s : Typer) → Adds P s (def.opened tag s)
   unfolding def.opened
   opened_adds None s = adds_none P
-  opened_adds (Some x) s = adds_by P (is_visible s.tags x.text) (refusal 2 x.pos refl) (record { new = λ f h. inl h })
+  opened_adds (Some x) s = adds_by P (is_visible s.tags x.text) (adds_other P 2 x.pos refl) (record { new = λ f h. inl h })
 
   pub closed_adds : (tag : Option Name) (i : Option ℕ) (f : Fields) (s : Typer) → Adds P s (def.closed tag i f s)
   unfolding def.closed
@@ -245,11 +243,11 @@ module _ (P : Fault → Type 0) (free : (k : ℕ) (q : Pos) → is_sited k ≡ f
 
   pub member_name_adds : (x : Name) (ty : Ty) (dims : List ℕ) (f : Fields) (s : Typer) → Adds P s (def.field x ty dims f s)
   unfolding def.field
-  member_name_adds x ty dims f s = adds_by P (def.is_taken s f x.text) (refusal 2 x.pos refl) (adds_none P)
+  member_name_adds x ty dims f s = adds_by P (def.is_taken s f x.text) (adds_other P 2 x.pos refl) (adds_none P)
 
   pub named_adds : (x : Name) (m : named.Named) (s : Typer) → Adds P s (decl.named x m s)
   unfolding decl.named
-  named_adds x m s = adds_by P (is_visible s.names x.text) (refusal 2 x.pos refl) (record { new = λ f h. inl h })
+  named_adds x m s = adds_by P (is_visible s.names x.text) (adds_other P 2 x.pos refl) (record { new = λ f h. inl h })
 
   pub variable_adds : (x : Name) (shape : Shape) (home : Home) (constant : Bool) (zs : List ℤ) (s : Typer) → Adds P s (variable x shape home constant zs s)
   unfolding variable
@@ -260,39 +258,39 @@ module _ (P : Fault → Type 0) (free : (k : ℕ) (q : Pos) → is_sited k ≡ f
   input_adds x num s = adds_then P (named_adds x _ s) (λ u t. record { new = λ f h. inl h })
 
   -- ---- assignments
-  to_number_adds : (y : Access) (num : Num) (p : Pos) (i : Operand) (s : Typer) → Adds P s (to_number y num p i s)
-  to_number_adds y num p (a.Number e from v) s = adds_none P
-  to_number_adds y num p (a.Struct z k fixed q) s = refusal 5 p refl
-  to_number_adds y num p (a.Array q) s = refusal 5 p refl
-  to_number_adds y num p a.Unknown s = adds_none P
+  to_number_adds : (y : Access) (num : Num) (p : Pos) (i : Operand) (s : Typer) → P p → Adds P s (to_number y num p i s)
+  to_number_adds y num p (a.Number e from v) s h = adds_none P
+  to_number_adds y num p (a.Struct z k fixed q) s h = adds_refusal P p h
+  to_number_adds y num p (a.Array q) s h = adds_refusal P p h
+  to_number_adds y num p a.Unknown s h = adds_none P
 
-  to_struct_adds : (y : Access) (fixed : Bool) (k : ℕ) (p : Pos) (i : Operand) (s : Typer) → P (fault 7 p) → Adds P s (to_struct y fixed k p i s)
-  to_struct_adds y fixed k p (a.Number e from v) s h = refusal 5 p refl
-  to_struct_adds y fixed k p (a.Struct z j g q) s h = adds_then P (adds_unless P _ 7 p h) (λ b t. adds_none P)
-  to_struct_adds y fixed k p (a.Array q) s h = refusal 5 p refl
+  to_struct_adds : (y : Access) (fixed : Bool) (k : ℕ) (p : Pos) (i : Operand) (s : Typer) → P p → Adds P s (to_struct y fixed k p i s)
+  to_struct_adds y fixed k p (a.Number e from v) s h = adds_refusal P p h
+  to_struct_adds y fixed k p (a.Struct z j g q) s h = adds_then P (other_unless P _ 7 p refl) (λ b t. adds_none P)
+  to_struct_adds y fixed k p (a.Array q) s h = adds_refusal P p h
   to_struct_adds y fixed k p a.Unknown s h = adds_none P
 
-  to_form_adds : (l : Spot) (o : Option Form) (p : Pos) (i : Operand) (s : Typer) → P (fault 7 p) → Adds P s (to_form l o p i s)
+  to_form_adds : (l : Spot) (o : Option Form) (p : Pos) (i : Operand) (s : Typer) → P p → Adds P s (to_form l o p i s)
   to_form_adds l None p i s h = adds_none P
-  to_form_adds l (Some (form.Scalar num)) p i s h = to_number_adds (access l) num p i s
+  to_form_adds l (Some (form.Scalar num)) p i s h = to_number_adds (access l) num p i s h
   to_form_adds l (Some (form.Struct k)) p i s h = to_struct_adds (access l) l.fixed k p i s h
-  to_form_adds l (Some (form.Array m)) p i s h = refusal 5 p refl
+  to_form_adds l (Some (form.Array m)) p i s h = adds_refusal P p h
 
-  pub assigned_adds : (l : Spot) (p : Pos) (i : Operand) (s : Typer) → P (fault 7 p) → Adds P s (assigned l p i s)
+  pub assigned_adds : (l : Spot) (p : Pos) (i : Operand) (s : Typer) → P p → Adds P s (assigned l p i s)
   unfolding assigned
   assigned_adds l p i s h = to_form_adds l (form_at l) p i s h
 
-  compounded_number_adds : (y : Access) (o : Operator) (p : Pos) (k : Sort) (e : Expr) (num : Num) (s : Typer) → Adds P s (compounded_number y o p k e num s)
-  compounded_number_adds y o p (sort.Number to) e num s = adds_none P
-  compounded_number_adds y o p sort.Object e num s = refusal 5 p refl
-  compounded_number_adds y o p sort.Unknown e num s = adds_none P
+  compounded_number_adds : (y : Access) (o : Operator) (p : Pos) (k : Sort) (e : Expr) (num : Num) (s : Typer) → P p → Adds P s (compounded_number y o p k e num s)
+  compounded_number_adds y o p (sort.Number to) e num s h = adds_none P
+  compounded_number_adds y o p sort.Object e num s h = adds_refusal P p h
+  compounded_number_adds y o p sort.Unknown e num s h = adds_none P
 
-  compounded_by_adds : (y : Access) (o : Operator) (p : Pos) (k : Sort) (i : Operand) (s : Typer) → Adds P s (compounded_by y o p k i s)
-  compounded_by_adds y o p k (a.Number e num v) s = compounded_number_adds y o p k e num s
-  compounded_by_adds y o p k (a.Struct z j fixed q) s = refusal 5 p refl
-  compounded_by_adds y o p k (a.Array q) s = refusal 5 p refl
-  compounded_by_adds y o p k a.Unknown s = adds_then P (unless (is_object k) 5 p refl) (λ b t. adds_none P)
+  compounded_by_adds : (y : Access) (o : Operator) (p : Pos) (k : Sort) (i : Operand) (s : Typer) → P p → Adds P s (compounded_by y o p k i s)
+  compounded_by_adds y o p k (a.Number e num v) s h = compounded_number_adds y o p k e num s h
+  compounded_by_adds y o p k (a.Struct z j fixed q) s h = adds_refusal P p h
+  compounded_by_adds y o p k (a.Array q) s h = adds_refusal P p h
+  compounded_by_adds y o p k a.Unknown s h = adds_then P (adds_unless P (is_object k) p h) (λ b t. adds_none P)
 
-  pub compounded_adds : (l : Spot) (o : Operator) (p : Pos) (i : Operand) (s : Typer) → Adds P s (compounded l o p i s)
+  pub compounded_adds : (l : Spot) (o : Operator) (p : Pos) (i : Operand) (s : Typer) → P p → Adds P s (compounded l o p i s)
   unfolding compounded
-  compounded_adds l o p i s = compounded_by_adds (access l) o p (sort_by (form_at l)) i s
+  compounded_adds l o p i s h = compounded_by_adds (access l) o p (sort_by (form_at l)) i s h

@@ -31,7 +31,7 @@ use Rattle.sa_rules.specs.Rules.{at_if, at_unless}
 use Rattle.sa_rules.specs.Scenes.{Scene, Meaning, words_type, tag_type, named_type, is_complete}
 use Rattle.sa_rules.specs.Sight.{Open, Place, Sight, see}
 use Rattle.sa_rules.specs.Spots.{Spot, nowhere, spot_of, meant_spot}
-use Rattle.sa_rules.proofs.Walks.{is_noted, noted, broken, faults_at, note, meant, shape_in, seen_as, scene_of, state, value, Reads, Free, refused_scene, refused_noted, other_noted, then_event}
+use Rattle.sa_rules.proofs.Walks.{is_noted, noted, broken, faults_at, note, meant, shape_in, seen_as, scene_of, state, value, Reads, Quiet, Free, refused_scene, refused_noted, other_noted, then_event}
 
 -- what is open, and whether there was a main with the clock loop
 pub record At (os : List Open) (found : Bool) (m : Sight) : Type 0 where
@@ -120,6 +120,10 @@ pub refused_one : {A : Type 0} {s : Typer} {e : Event} {Y : A → Sight → Type
     noted (refused rule q s).faults ≡ noted s.faults ++ fs → Y a k → One s e Y (Gives a (refused rule q s)) m
 refused_one {s = s} rule q k fs see_is r scene faults y = one_as k fs see_is r (scene ∙ sym (refused_scene rule q s)) faults y
 
+-- the same after a walk that does nothing of that kind
+pub quiet_one : {A : Type 0} {s : Typer} {e : Event} {Y : A → Sight → Type 0} {t : Typed A} {m : Sight} (k : Sight) → Quiet s t → see m e ≡ k → broken m e ≡ [] → k.scene ≡ scene_of s → Y (value t) k → One s e Y t m
+quiet_one {s = s} k q see_is r scene y = one_as k [] see_is r (scene ∙ sym q.scene) (q.faults ∙ nothing_added s) y
+
 -- ---- lookups
 pub meaning_seen : {M N : Type 0} (f : M → N) (s : Scope M) (w : List ℕ) → meaning_of (seen_as f s) w ≡ option_map f (meaning_of s w)
 unfolding meaning_of
@@ -133,7 +137,7 @@ known s w o h = meaning_seen meant s.names w ∙ ap (option_map meant) h
 
 -- ---- where places begin
 abbrev pub seen_spot : typed.Spot → Spot
-seen_spot l = record { shape = l.shape; depth = l.depth; locked = l.locked }
+seen_spot l = record { shape = l.shape; depth = l.depth; locked = l.locked; fixed = l.fixed }
 
 variable_seen : (p : Pos) (k : ℕ) (o : Option Var) → seen_spot (variable_at p k o) ≡ spot_of (option_map shape_in o)
 variable_seen p k None = refl

@@ -64,12 +64,12 @@ module _ (found : Bool) where
     links_reads os (more_of-Link op q x rest) l s =
         bind (ends (expr_reads os x s) (λ i t. quiet_then (beside_quiet op x t) (λ a u. linked_quiet op q l i u))) (λ l t. links_reads os rest l t)
 
-    steps_reads : {n : _} (os : List Open) (row : Row_of-Step n) (l : Spot) (s : Typer) → Reads (AtSpot os found l) s (in_steps row) (AtSpot os found) (steps row l s)
+    pub steps_reads : {n : _} (os : List Open) (row : Row_of-Step n) (l : Spot) (s : Typer) → Reads (AtSpot os found l) s (in_steps row) (AtSpot os found) (steps row l s)
     steps_reads os end_of-Step l s = stays
     steps_reads os (more_of-Step x rest) l s = bind (step_reads os x l s) (λ l t. steps_reads os rest l t)
 
     pub step_reads : (os : List Open) (x : Step) (l : Spot) (s : Typer) → Reads (AtSpot os found l) s (in_step x) (AtSpot os found) (step x l s)
-    step_reads os (Index' q n (more_of-Expr x end_of-Expr)) l s = bind (expr_reads (sight.Place (seen_spot l) ∷ os) x s) (λ i t. index_reads os found q i l t)
+    step_reads os (Index' q n (more_of-Expr x end_of-Expr)) l s = then_here _ (expr_reads (sight.Place (seen_spot l) ∷ os) x s) (index_reads os found q x (value (expr x s)) l (state (expr x s)) (known_there x s))
     step_reads os (Field q x) l s = place_field_reads os found q x l s
     step_reads os (Arrow q x) l s = arrow_reads os found q l s
 

@@ -17,11 +17,11 @@ use Rattle.sa_rules.specs.Events.{Event}
 use Rattle.sa_rules.specs.Scenes as scene
 use Rattle.sa_rules.specs.Scenes.{Meaning, Of_shape, Scene}
 use Rattle.sa_rules.specs.Sight.{Sight, see}
-use Rattle.sa_rules.specs.Rules.{no_constant, oversized, undeclared, declared_twice, no_type, no_field, unassignable, ill_begun, misqualified, astray}
+use Rattle.sa_rules.specs.Rules.{no_constant, oversized, undeclared, declared_twice, no_type, no_field, unassignable, ill_copied, ill_begun, misqualified, astray}
 
 -- ---- what is noted: refusals with these codes
 abbrev pub is_noted : ℕ → Bool
-is_noted k = k == 18 || k == 19 || k == 1 || k == 2 || k == 3 || k == 21 || k == 22 || k == 23 || k == 20 || k == 6 || k == 4
+is_noted k = k == 18 || k == 19 || k == 1 || k == 2 || k == 3 || k == 21 || k == 22 || k == 23 || k == 20 || k == 6 || k == 4 || k == 7
 
 abbrev pub is_noted_fault : Fault → Bool
 is_noted_fault f = is_noted f.rule
@@ -36,9 +36,9 @@ faults_at code (Some p) = fault code p ∷ []
 -- what an event is refused for
 abbrev pub broken : Sight → Event → List Fault
 broken m e =
-    faults_at 18 (no_constant m e)
-    ++ (faults_at 19 (oversized m e) ++ (faults_at 1 (undeclared m e) ++ (faults_at 2 (declared_twice m e) ++ (faults_at 3 (no_type m e) ++ (faults_at 21 (misqualified m e)
-    ++ (faults_at 23 (astray m e) ++ (faults_at 20 (ill_begun m e) ++ (faults_at 6 (unassignable m e) ++ faults_at 4 (no_field m e)))))))))
+    faults_at 7 (ill_copied m e)
+    ++ (faults_at 18 (no_constant m e) ++ (faults_at 19 (oversized m e) ++ (faults_at 1 (undeclared m e) ++ (faults_at 2 (declared_twice m e) ++ (faults_at 3 (no_type m e) ++ (faults_at 21 (misqualified m e)
+    ++ (faults_at 23 (astray m e) ++ (faults_at 20 (ill_begun m e) ++ (faults_at 6 (unassignable m e) ++ faults_at 4 (no_field m e))))))))))
 
 pub record Noted : Type 0 where
   pub sight : Sight
@@ -163,6 +163,10 @@ ends_to {t = Gives a u} {f = f} m go to = record { reads = λ n h x. let k = m.r
 pub ends : {A B : Type 0} {X Y : Sight → Type 0} {s : Typer} {xs : List Event} {t : Typed A} {f : A → Typing B} →
     Reads X s xs (λ a. Y) t → ((a : A) (u : Typer) → Quiet u (f a u)) → Reads X s xs (λ b. Y) (and_then t f)
 ends {t = Gives a u} {f = f} m go = record { reads = λ n h x. let k = m.reads n h x in (same_still (go a u) k.0, k.1) }
+
+-- the same for the state that the first part ends in
+pub then_quiet : {A B : Type 0} {X Y : Sight → Type 0} {s : Typer} {xs : List Event} {a : A} {u : Typer} {t : Typed B} → Reads X s xs (λ (b : A). Y) (Gives a u) → Quiet u t → Reads X s xs (λ (b : B). Y) t
+then_quiet m q = record { reads = λ n h x. let k = m.reads n h x in (same_still q k.0, k.1) }
 
 pub so : {A : Type 0} {X : Sight → Type 0} {s : Typer} {xs : List Event} {Y Z : A → Sight → Type 0} {t : Typed A} → Reads X s xs Y t → ((a : A) (m : Sight) → Y a m → Z a m) → Reads X s xs Z t
 so {t = t} m f = record { reads = λ n h x. let k = m.reads n h x in (k.0, f (value t) _ k.1) }

@@ -41,13 +41,16 @@ pub data Event : Type 0 where
   -- a place begins with a variable's name, or with a `*` and a name
   Uses : Name → Event
   Follows : Name → Event
-  -- .. it goes on with an index, with a `.` and a field, with a `->`
-  Indexes : Event
+  -- .. it goes on with such an index, with a `.` and a field, with a `->`
+  Indexes : Expr → Event
   Picks : Name → Event
   Points : Event
   -- .. it is at its end, and is read; or it began there, and is assigned to
   Loads : Event
   Assigns : Pos → Event
+  -- .. what is assigned to it is the whole place behind that `=`; or it is anything else
+  Copies : Pos → Event
+  Stores : Event
   -- names of the type that was just written are declared, from there on to there
   Group_begins : Event
   Group_ends : Event
@@ -121,7 +124,7 @@ unfoldable mutual
   in_steps (more_of-Step x rest) = in_step x ++ in_steps rest
 
   pub in_step : Step → List Event
-  in_step (Index' p n (more_of-Expr x end_of-Expr)) = in_expr x ++ Indexes ∷ []
+  in_step (Index' p n (more_of-Expr x end_of-Expr)) = in_expr x ++ Indexes x ∷ []
   in_step (Field p x) = Picks x ∷ []
   in_step (Arrow p x) = Points ∷ []
 

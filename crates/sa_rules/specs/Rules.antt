@@ -18,10 +18,10 @@ use Rattle.sa_scopes.specs.Scopes.{is_visible, is_some, meaning_of}
 use Rattle.sa_scopes.specs.Types.{num_of}
 use Rattle.sa_scopes.specs.Typing.{fault}
 use Rattle.sa_typer.specs.Units.{refusals}
-use Rattle.sa_rules.specs.Events.{Event, Misplaced, Volatile_before_bare, Words, Tag, Opens, Object, Uses, Follows, Picks, Assigns, Declares, Defines, Aliases, Member, Dimension, Starts_input, Next_item, Begins_with, Initial, Stray}
+use Rattle.sa_rules.specs.Events.{Event, Misplaced, Volatile_before_bare, Words, Tag, Opens, Object, Uses, Follows, Picks, Assigns, Copies, Declares, Defines, Aliases, Member, Dimension, Starts_input, Next_item, Begins_with, Initial, Stray}
 use Rattle.sa_rules.specs.Scenes.{is_complete, is_void, is_taken}
-use Rattle.sa_rules.specs.Sight.{Sight, nothing_seen, see, after, fields_so_far, next_slot, spot_in, wanted}
-use Rattle.sa_rules.specs.Spots.{lacks}
+use Rattle.sa_rules.specs.Sight.{Sight, nothing_seen, see, after, fields_so_far, next_slot, spot_in, target_in, wanted}
+use Rattle.sa_rules.specs.Spots.{lacks, differs}
 use Rattle.sa_rules.specs.Texts.{text}
 use Rattle.sa_rules.specs.Values.{value_of}
 
@@ -68,6 +68,11 @@ no_field m _ = None
 abbrev pub unassignable : Rule
 unassignable m (Assigns p) = at_if (spot_in m.opened).locked p
 unassignable m _ = None
+
+-- 7: a structure is assigned to another one, or one of the two places has an index that isn't constant
+abbrev pub ill_copied : Rule
+ill_copied m (Copies p) = at_if (differs (target_in m.opened) (spot_in m.opened)) p
+ill_copied m _ = None
 
 -- 18: a dimension, or an initial value of the file scope or within braces, is no constant expression or errs; such a value
 -- is for a number

@@ -17,8 +17,9 @@ use Rattle.sa_scopes.specs.Forms.{scalar, form_of}
 use Rattle.sa_scopes.specs.Scopes.{meaning_of, is_visible, with_name, count}
 use Rattle.sa_scopes.specs.Structures.{Structs, slot}
 use Rattle.sa_scopes.specs.Types.{num_of, plain, qualified, shape_of}
+use Rattle.sa_scopes.specs.Values.{is_constant}
 use Rattle.sa_typer.specs.Units.{is_entry_type}
-use Rattle.sa_rules.specs.Events.{Event, Misplaced, Volatile_before_bare, Words, Void, Tag, Named, Opens, Closes, Qualifies, Object, Uses, Follows, Indexes, Picks, Points, Loads, Assigns, Group_begins, Group_ends, Dimension, Starts, Starts_input, Next_item, Begins_with, Initial, Filled, Declares, Defines, Aliases, Member, Begins, Ends, Stray, Main}
+use Rattle.sa_rules.specs.Events.{Event, Misplaced, Volatile_before_bare, Words, Void, Tag, Named, Opens, Closes, Qualifies, Object, Uses, Follows, Indexes, Picks, Points, Loads, Assigns, Copies, Stores, Group_begins, Group_ends, Dimension, Starts, Starts_input, Next_item, Begins_with, Initial, Filled, Declares, Defines, Aliases, Member, Begins, Ends, Stray, Main}
 use Rattle.sa_rules.specs.Scenes.{Scene, Meaning, Alias, Function, blank, words_type, tag_type, named_type, object_type, named, declared, with_fields, within, is_taken}
 use Rattle.sa_rules.specs.Spots.{Spot, nowhere, meant_spot, indexed, lost, stepped}
 use Rattle.sa_rules.specs.Values.{value_of}
@@ -63,6 +64,10 @@ close_one m = record m { opened = rest_of m.opened }
 abbrev pub spot_in : List Open → Spot
 spot_in (Place l ∷ os) = l
 spot_in _ = nowhere
+
+-- the place that is assigned to, while the one that is copied to it is open
+abbrev pub target_in : List Open → Spot
+target_in os = spot_in (rest_of os)
 
 abbrev pub step_to : Spot → Sight → Sight
 step_to l m = record m { opened = Place l ∷ rest_of m.opened }
@@ -149,11 +154,13 @@ see m (Qualifies qs) = record m { last = qualified qs m.last }
 see m (Object p) = record m { last = object_type m.last }
 see m (Uses x) = open_more (Place (meant_spot m.scene (meaning_of m.scene.names x.text))) m
 see m (Follows x) = open_more (Place nowhere) m
-see m Indexes = step_to (indexed (spot_in m.opened)) m
+see m (Indexes x) = step_to (indexed (is_constant (value_of m.scene.names x)) (spot_in m.opened)) m
 see m (Picks x) = step_to (stepped m.scene.structs x.text (spot_in m.opened)) m
 see m Points = step_to (lost (spot_in m.opened)) m
 see m Loads = close_one m
-see m (Assigns p) = close_one m
+see m (Assigns p) = m
+see m (Copies p) = close_one (close_one m)
+see m Stores = close_one m
 see m Group_begins = open_more (Group m.last []) m
 see m Group_ends = close_one m
 see m (Dimension x) = record m { opened = with_size (size_of (value_of m.scene.names x)) m.opened }

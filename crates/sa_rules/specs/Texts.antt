@@ -14,6 +14,7 @@ use Rattle.sa_syntax.specs.declared.decl.Qualifier.TheVariants.{Volatile}
 use Rattle.sa_syntax.specs.declared.decl.Specifiers.{Specifiers, out-Specifiers}
 use Rattle.sa_syntax.specs.declared.decl.Start.{Start}
 use Rattle.sa_syntax.specs.declared.decl.Start.TheVariants as start
+use Rattle.sa_syntax.specs.declared.expr.Expr.{Expr, Place', Bracket', end_of-Expr, more_of-Expr}
 use Rattle.sa_syntax.specs.declared.expr.Place.{Place, out-Place}
 use Rattle.sa_syntax.specs.declared.stmt.Block.{Block, out-Block}
 use Rattle.sa_syntax.specs.declared.stmt.BlockItem as block
@@ -36,7 +37,7 @@ use Rattle.sa_declarations.specs.Declarations.{are_bare}
 use Rattle.sa_scopes.specs.First.{item_pos, init_pos, place_pos}
 use Rattle.sa_scopes.specs.Scopes.{is_visible, is_some}
 use Rattle.sa_scopes.specs.Types.{has_volatile}
-use Rattle.sa_rules.specs.Events.{Event, Misplaced, Volatile_before_bare, Qualifies, Object, Assigns, Group_begins, Group_ends, Starts, Starts_input, Next_item, Begins_with, Initial, Filled, Declares, Defines, Aliases, Begins, Ends, Stray, Main, is_volatile, misplaced, begin, in_expr, in_step, in_base, in_struct, in_bound}
+use Rattle.sa_rules.specs.Events.{Event, Misplaced, Volatile_before_bare, Qualifies, Object, Assigns, Copies, Stores, Group_begins, Group_ends, Starts, Starts_input, Next_item, Begins_with, Initial, Filled, Declares, Defines, Aliases, Begins, Ends, Stray, Main, is_volatile, misplaced, begin, in_expr, in_steps, in_step, in_base, in_struct, in_bound}
 use Rattle.sa_rules.specs.Sight.{Sight, nothing_seen, after}
 
 -- ---- initialisers
@@ -114,11 +115,17 @@ in_place x = begin (out-Place x).base ∷ flat_map in_step (out-Place x).steps
 abbrev pub in_left : Place → List Event
 in_left x = in_place x ++ Assigns (place_pos x) ∷ []
 
+-- what stands behind a `=`: a place by itself, in brackets or not, or anything else
+unfoldable pub in_right : Pos → Expr → List Event
+in_right p (Place' b n row) = begin b ∷ (in_steps row ++ Copies p ∷ [])
+in_right p (Bracket' q n (more_of-Expr x end_of-Expr)) = in_right p x
+in_right p e = in_expr e ++ Stores ∷ []
+
 unfoldable pub in_simple : Simple → List Event
-in_simple (simple.Assign x p e) = in_left x ++ in_expr e
-in_simple (simple.Compound x op p e) = in_left x ++ in_expr e
-in_simple (simple.After x turn p) = in_left x
-in_simple (simple.Before turn p x) = in_left x
+in_simple (simple.Assign x p e) = in_left x ++ in_right p e
+in_simple (simple.Compound x op p e) = in_left x ++ (in_expr e ++ Stores ∷ [])
+in_simple (simple.After x turn p) = in_left x ++ Stores ∷ []
+in_simple (simple.Before turn p x) = in_left x ++ Stores ∷ []
 
 -- a wait by itself
 abbrev pub in_directive : Pos → Directive → List Event

@@ -1,6 +1,6 @@
 //! Laws of refusals.
 
-ghost use Rattle.sa_rules.specs.Rules.{IsRule, IsExact, IsMissingMain, undeclared, declared_twice, no_type, no_field, unassignable, no_constant, oversized, ill_begun, misqualified, astray};
+ghost use Rattle.sa_rules.specs.Rules.{IsRule, IsExact, IsMissingMain, undeclared, declared_twice, no_type, no_field, unassignable, ill_copied, no_constant, oversized, ill_begun, misqualified, astray};
 ghost use Rattle.sa_rules.specs.Sites.{StandAtSites};
 
 /// Refusals with code 1 stand exactly at the names of variables that aren't visible there.
@@ -34,6 +34,13 @@ pub fn fields_are_there()
 pub fn left_sides_are_free()
     ensures listed { IsRule 6 unassignable }
     ensures exact { IsExact 6 unassignable }
+{}
+
+/// Refusals with code 7 stand exactly at each `=` behind which a place by itself is a structure, where the place before it is
+/// another structure, or where an index of one of the two isn't constant.
+pub fn copies_are_of_one_structure()
+    ensures listed { IsRule 7 ill_copied }
+    ensures exact { IsExact 7 ill_copied }
 {}
 
 /// Refusals with code 18 stand exactly at the first tokens of dimensions, and of initial values of the file scope and within
@@ -77,8 +84,8 @@ pub fn waits_stand_in_place()
     ensures exact { IsExact 23 astray }
 {}
 
-/// Refusals with the codes 4, 6, 7, 18, 19 and 20 stand only where such a one can stand: at the name of a field, a left side, the
-/// `=` of an assignment, a dimension, an initialiser. Whether one stands there depends on types.
-pub fn other_refusals_stand_at_their_sites()
+/// Refusals with code 5 stand only where an operand is taken or a name is used: at a mark that takes a number, an array or a
+/// structure, at the name of a variable or of main, at a `*` before a name. Whether one stands there depends on types.
+pub fn operands_are_refused_at_their_sites()
     ensures { StandAtSites }
 {}
