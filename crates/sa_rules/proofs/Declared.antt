@@ -20,7 +20,6 @@ use Rattle.sa_syntax.specs.declared.stmt.Local.{Local}
 use Rattle.sa_syntax.specs.declared.stmt.LocalDeclr.{LocalDeclr}
 use Rattle.sa_syntax.specs.declared.stmt.LocalStart.{LocalStart}
 use Rattle.sa_syntax.specs.declared.stmt.LocalStart.TheVariants as inner
-use Rattle.sa_typed.specs.Arithmetic.{is_of}
 use Rattle.sa_typed.specs.declared.program.Home.TheVariants as home
 use Rattle.sa_typed.specs.declared.shape.Shape.{Shape}
 use Rattle.sa_typed.specs.declared.stmt.Stmt.{Stmt}
@@ -36,12 +35,11 @@ use Rattle.sa_operands.specs.Expressions.{expr}
 use Rattle.sa_scopes.specs.First.{expr_pos, init_pos}
 use Rattle.sa_scopes.specs.Forms.{form_of, scalar}
 use Rattle.sa_scopes.specs.Scopes.{is_some}
-use Rattle.sa_declarations.specs.Initialisers.{item, within, valued, slotted, init, braced, values}
-use Rattle.sa_operands.specs.Operands.{sort_of, is_object, known_value, no_object}
+use Rattle.sa_declarations.specs.Initialisers.{valued, slotted, init, braced, values}
+use Rattle.sa_operands.specs.Operands.{sort_of, is_object, known_value}
 use Rattle.sa_scopes.specs.Structures.{slot}
 use Rattle.sa_scopes.specs.Types.{qualifier, qualifiers, is_misplaced, has_volatile, shape_of}
-use Rattle.sa_scopes.specs.Values.{constant}
-use Rattle.sa_scopes.specs.Typing.{Typed, Typing, Gives, and_then, each, refused, refuse_if, fault}
+use Rattle.sa_scopes.specs.Typing.{Typed, Typing, Gives, each, refused, refuse_if, fault}
 use Rattle.sa_rules.specs.Events.{Event, Misplaced, Volatile_before_bare, Starts, Next_item, Begins_with, Initial, Filled, Declares}
 use Rattle.sa_rules.specs.Rules.{at_unless, unless_known_for, unfit, is_number}
 use Rattle.sa_rules.specs.Scenes.{number_if}

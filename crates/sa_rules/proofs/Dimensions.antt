@@ -1,5 +1,5 @@
 -- Dimensions, and initial values that have to be known.
-use Rattle.std.proofs.Common.{◌≡◌, ℕ, ◌+◌, Bool, true, false, List, [], ◌∷◌, ◌++◌, refl, sym, ap, ◌∙◌, Option, Some, None}
+use Rattle.std.proofs.Common.{◌≡◌, ℕ, Bool, true, false, List, [], ◌∷◌, ◌++◌, refl, sym, ap, ◌∙◌}
 use Rattle.std.specs.Prelude.{ℤ, pos, unsigned_abs, if◌then◌else◌}
 use Rattle.sa_base.specs.declared.num.Num.{Num}
 use Rattle.sa_syntax.specs.declared.expr.Expr.{Expr}
@@ -30,8 +30,8 @@ use Rattle.sa_rules.specs.Sight.{Open, Group, For, Sight, see, size_of}
 use Rattle.sa_rules.specs.Values.{value_of}
 use Rattle.sa_rules.proofs.ConstantValues.{value_gets}
 use Rattle.sa_rules.proofs.QuietParts.{no_object_quiet}
-use Rattle.sa_rules.proofs.Steps.{At, seeing, one_at, one_as, refused_one, nothing_added, along}
-use Rattle.sa_rules.proofs.Walks.{broken, faults_at, meant, seen_as, scene_of, state, value, Reads, quiet, then_here, refused_noted}
+use Rattle.sa_rules.proofs.Steps.{At, seeing, one_at, one_as, refused_one, nothing_added}
+use Rattle.sa_rules.proofs.Walks.{broken, faults_at, meant, seen_as, state, value, Reads, quiet, then_here, refused_noted}
 
 -- what is known of an expression once it is typed
 pub known_there : (x : Expr) (s : Typer) → known_value (value (expr x s)) ≡ value_of (seen_as meant (state (expr x s)).names) x

@@ -3,16 +3,10 @@ use Rattle.std.proofs.Common.{◌≡◌, ℕ, Bool, true, false, List, [], ◌�
 use Rattle.std.proofs.lemmas.List.{map-append, take-map, length-map}
 use Rattle.std.specs.Prelude.{ℤ, if◌then◌else◌, ◌||◌, option_map, map}
 use Rattle.sa_base.specs.declared.num.Num.{Num}
-use Rattle.sa_base.specs.declared.pos.Pos.{Pos}
 use Rattle.sa_syntax.specs.declared.decl.Name.{Name}
-use Rattle.sa_syntax.specs.declared.decl.Start.{Start as Begins}
-use Rattle.sa_syntax.specs.declared.decl.Start.TheVariants as begins
 use Rattle.sa_typed.specs.declared.program.Home.{Home}
-use Rattle.sa_typed.specs.declared.shape.Shape.{Shape}
 use Rattle.sa_scopes.specs.declared.structs.Fields.{Fields}
-use Rattle.sa_scopes.specs.declared.typer.Fault.{Fault}
 use Rattle.sa_scopes.specs.declared.typer.Typer.{Typer}
-use Rattle.sa_scopes.specs.declared.types.Element.{Element}
 use Rattle.sa_scopes.specs.declared.types.Element.TheVariants as el
 use Rattle.sa_scopes.specs.declared.types.Named as named
 use Rattle.sa_scopes.specs.declared.types.Named.TheVariants as n
@@ -30,8 +24,8 @@ use Rattle.sa_rules.specs.Rules.{at_if}
 use Rattle.sa_rules.specs.Scenes as scene
 use Rattle.sa_rules.specs.Scenes.{Meaning, Of_shape, Scene, is_type_name, is_taken, with_name_unless, with_fields, number_by}
 use Rattle.sa_rules.specs.Sight.{Open, Braces, Group, Sight, see, opened_unless, field_unless}
-use Rattle.sa_rules.proofs.Walks.{noted, faults_at, meant, shape_in, seen_as, scene_of, state, Reads, Free, refused_noted, refused_scene, event, then_event}
-use Rattle.sa_rules.proofs.Steps.{At, Last, seeing, One, one_at, one_last, free_at, free_last, one_as, refused_one, nothing_added, known, along}
+use Rattle.sa_rules.proofs.Walks.{noted, faults_at, meant, shape_in, seen_as, scene_of, state, Reads, refused_noted, event, then_event}
+use Rattle.sa_rules.proofs.Steps.{At, Last, seeing, one_at, one_last, free_at, free_last, one_as, refused_one, nothing_added, known, along}
 
 -- a scope with another name
 pub with_name_seen : {M N : Type 0} (f : M → N) (s : Scope M) (w : List ℕ) (x : M) → with_name (seen_as f s) w (f x) ≡ seen_as f (with_name s w x)

@@ -10,7 +10,6 @@ use Rattle.sa_scopes.specs.declared.form.Form.TheVariants as form
 use Rattle.sa_operands.specs.declared.operand.Operand.{Operand}
 use Rattle.sa_operands.specs.declared.operand.Spot as typed
 use Rattle.sa_scopes.specs.declared.structs.Member.{Member}
-use Rattle.sa_scopes.specs.declared.typer.Fault.{Fault}
 use Rattle.sa_scopes.specs.declared.typer.Typer.{Typer}
 use Rattle.sa_scopes.specs.declared.types.Ty.{Ty}
 use Rattle.sa_operands.specs.Operands.{sort_of, is_object, expr_or, known_value}
@@ -19,15 +18,15 @@ use Rattle.sa_operands.specs.Places as places
 use Rattle.sa_operands.specs.Places.{form_at, index, indexed_with, element_of, field, field_of, to_member, arrow, is_known}
 use Rattle.sa_scopes.specs.Structures.{member_of}
 use Rattle.sa_scopes.specs.Values.{is_constant}
-use Rattle.sa_scopes.specs.Typing.{Typed, Gives, and_then, pure, refuse_if, fault}
+use Rattle.sa_scopes.specs.Typing.{Typed, and_then, pure, refuse_if, fault}
 use Rattle.sa_rules.specs.Events.{Event, Indexes, Picks, Points, Loads, Assigns}
 use Rattle.sa_rules.specs.Rules.{at_if}
 use Rattle.sa_rules.specs.Sight.{Open, Place, Sight, see}
 use Rattle.sa_rules.specs.Spots.{Spot, lost, element_by, indexed, field_by, member_spot, is_none, lacks_by}
 use Rattle.sa_rules.specs.Values.{value_of}
 use Rattle.sa_rules.proofs.QuietParts.{index_quiet, arrow_quiet}
-use Rattle.sa_rules.proofs.Steps.{At, AtSpot, seeing, seen_spot, one_at, one_as, quiet_one, refused_one, nothing_added, other_added, free_at, along}
-use Rattle.sa_rules.proofs.Walks.{broken, faults_at, meant, seen_as, state, value, Reads, Free, quiet_to, event, then_event, refused_noted}
+use Rattle.sa_rules.proofs.Steps.{At, AtSpot, seeing, seen_spot, one_at, one_as, quiet_one, refused_one, nothing_added, other_added, free_at}
+use Rattle.sa_rules.proofs.Walks.{broken, faults_at, meant, seen_as, value, Reads, quiet_to, event, then_event, refused_noted}
 
 abbrev lost_to : typed.Spot → typed.Spot
 lost_to l = places.lost (step.Field 0) l

@@ -16,9 +16,9 @@ use Rattle.sa_scopes.specs.declared.types.Element.{Element}
 use Rattle.sa_scopes.specs.declared.types.Element.TheVariants as el
 use Rattle.sa_scopes.specs.declared.types.Ty.{Ty}
 use Rattle.sa_operands.specs.Expressions.{expr, links, base_type, beside_first}
-use Rattle.sa_operands.specs.Operands.{is_object, literal, no_number, prefixed, prefix_of, cast, cast_to, miscast, left_of, chained}
+use Rattle.sa_operands.specs.Operands.{literal, no_number, prefixed, prefix_of, cast, cast_to, miscast, left_of, chained}
 use Rattle.sa_scopes.specs.Types.{object, qualifiers}
-use Rattle.sa_scopes.specs.Typing.{Typed, Typing, Gives, and_then, refused, refuse_if}
+use Rattle.sa_scopes.specs.Typing.{Typed, Typing, Gives, and_then, refused}
 use Rattle.sa_rules.proofs.Walks.{value}
 
 abbrev pub IsPlain : Operand → Type 0

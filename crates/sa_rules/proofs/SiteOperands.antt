@@ -1,5 +1,5 @@
 -- What stands at a place is refused at the name that the place begins with.
-use Rattle.std.proofs.Common.{◌≡◌, ℕ, Bool, true, false, [], refl, Option, Some, None}
+use Rattle.std.proofs.Common.{◌≡◌, ℕ, [], refl, Option, Some, None}
 use Rattle.std.specs.Prelude.{slice_get}
 use Rattle.sa_base.specs.declared.pos.Pos.{Pos}
 use Rattle.sa_syntax.specs.declared.decl.Name.{Name}

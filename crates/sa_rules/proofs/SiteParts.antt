@@ -1,5 +1,5 @@
 -- What the helpers of typing may refuse.
-use Rattle.std.proofs.Common.{◌≡◌, ℕ, Bool, true, false, List, [], ◌∷◌, refl, inl, Option, Some, None}
+use Rattle.std.proofs.Common.{◌≡◌, ℕ, Bool, true, List, [], refl, inl, Option, Some, None}
 use Rattle.std.specs.Prelude.{ℤ}
 use Rattle.sa_base.specs.declared.num.Num.{Num}
 use Rattle.sa_base.specs.declared.pos.Pos.{Pos}
@@ -27,7 +27,6 @@ use Rattle.sa_operands.specs.Operands.{no_object, with_threshold, beside, is_com
 use Rattle.sa_operands.specs.Places.{index, element_of, field, field_of, to_member, arrow, is_known, form_at, indexed_with}
 use Rattle.sa_scopes.specs.Structures.{member_of}
 use Rattle.sa_scopes.specs.Values.{constant}
-use Rattle.sa_scopes.specs.Typing.{Gives, refused, refuse_if}
 use Rattle.sa_syntax.specs.declared.expr.PlaceBase.{PlaceBase}
 use Rattle.sa_syntax.specs.declared.expr.PlaceBase.TheVariants as base
 use Rattle.sa_syntax.specs.declared.decl.Qualified.{Qualified}
@@ -37,7 +36,6 @@ use Rattle.sa_typed.specs.declared.expr.Operator.{Operator}
 use Rattle.sa_typed.specs.declared.program.Home.{Home}
 use Rattle.sa_typed.specs.declared.shape.Shape.{Shape}
 use Rattle.sa_scopes.specs.declared.structs.Fields.{Fields}
-use Rattle.sa_scopes.specs.declared.typer.Fault.{Fault}
 use Rattle.sa_scopes.specs.declared.types.Named as named
 use Rattle.sa_scopes.specs.declared.types.Named.TheVariants as n
 use Rattle.sa_scopes.specs.declared.types.Tagged.{Tagged}
@@ -51,7 +49,6 @@ use Rattle.sa_operands.specs.Places.{root_by, pointed_by, begins}
 use Rattle.sa_scopes.specs.Scopes.{meaning_of, is_visible}
 use Rattle.sa_typer.specs.Statements.{to_number, to_struct, to_form, assigned, compounded_number, compounded_by, compounded, sort_by}
 use Rattle.sa_scopes.specs.Types.{qualifier, qualifiers, is_misplaced, scalar, defined, tagged, type_name, not_void}
-use Rattle.sa_scopes.specs.Typing.{fault}
 use Rattle.sa_operands.specs.Places.{access}
 use Rattle.sa_rules.specs.Sites.{of_begin}
 use Rattle.sa_rules.proofs.SiteWalks.{Adds, Sub, sub_head, adds_none, adds_refusal, adds_other, adds_then, adds_unless, other_unless, adds_if, adds_by, adds_each}

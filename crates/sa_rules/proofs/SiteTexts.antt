@@ -1,5 +1,5 @@
 -- What initialisers, declarations, statements and whole texts may refuse.
-use Rattle.std.proofs.Common.{◌≡◌, ℕ, ◌+◌, Bool, true, false, not, ◌&&◌, List, [], ◌∷◌, ◌++◌, refl, subst, inl, inr, Option, Some, None}
+use Rattle.std.proofs.Common.{ℕ, ◌+◌, Bool, true, false, not, ◌&&◌, List, [], ◌∷◌, ◌++◌, refl, inl, inr, Option, Some, None}
 use Rattle.std.proofs.lemmas.List.Elements.{Contains-push_cases}
 use Rattle.std.specs.List.{Contains, flat_map}
 use Rattle.std.specs.Prelude.{ℤ, if◌then◌else◌}
@@ -36,7 +36,6 @@ use Rattle.sa_typed.specs.declared.shape.Shape.{Shape}
 use Rattle.sa_typed.specs.declared.stmt.Stmt.{Stmt}
 use Rattle.sa_typer.specs.declared.bodies.Body.{Body}
 use Rattle.sa_typer.specs.declared.bodies.Entry.{Entry}
-use Rattle.sa_scopes.specs.declared.typer.Fault.{Fault}
 use Rattle.sa_scopes.specs.declared.typer.Typer.{Typer}
 use Rattle.sa_scopes.specs.declared.types.Named.TheVariants as n
 use Rattle.sa_scopes.specs.declared.types.Ty.{Ty}

@@ -1,7 +1,6 @@
 -- A whole source sees and refuses what its events do.
 use Rattle.std.proofs.Common.{◌≡◌, Bool, true, false, ◌&&◌, List, [], ◌∷◌, ◌++◌, refl, sym, ap, subst, ◌∙◌, Option, Some, None}
 use Rattle.std.specs.Prelude.{if◌then◌else◌}
-use Rattle.sa_base.specs.declared.pos.Pos.{Pos}
 use Rattle.sa_syntax.specs.declared.decl.Name.{Name}
 use Rattle.sa_syntax.specs.declared.decl.Specifiers.{Specifiers, out-Specifiers}
 use Rattle.sa_syntax.specs.declared.stmt.Block.{Block, out-Block}
@@ -11,7 +10,6 @@ use Rattle.sa_syntax.specs.declared.unit.Item.TheVariants as top
 use Rattle.sa_syntax.specs.declared.unit.Unit.{Unit as Source}
 use Rattle.sa_typer.specs.declared.bodies.Entry.{Entry}
 use Rattle.sa_scopes.specs.declared.typer.Typer.{Typer}
-use Rattle.sa_scopes.specs.declared.types.Named.TheVariants as n
 use Rattle.sa_scopes.specs.declared.types.Ty.{Ty}
 use Rattle.sa_declarations.specs.Declarations.{is_struct}
 use Rattle.sa_scopes.specs.Scopes.{is_visible}
@@ -20,11 +18,10 @@ use Rattle.sa_typer.specs.Units as unit
 use Rattle.sa_typer.specs.Units.{plain_type, type_name, is_main, entry, first_main, main, blank, is_entry_type, is_entry, has_entry, all_items, refusals}
 use Rattle.sa_rules.specs.Events.{Event, Aliases, Defines, Main}
 use Rattle.sa_rules.specs.Rules.{at_if}
-use Rattle.sa_rules.specs.Scenes as scene
-use Rattle.sa_rules.specs.Scenes.{Scene, with_name_unless}
+use Rattle.sa_rules.specs.Scenes.{Scene}
 use Rattle.sa_rules.specs.Sight.{Sight, nothing_seen, see, after}
 use Rattle.sa_rules.specs.Texts.{in_plain, in_body, in_func, in_top, in_tops, has_loop, text}
-use Rattle.sa_rules.proofs.Walks.{Noted, note, noting, noting_append, noted, faults_at, scene_of, Same, state, value, Reads, quiet_unless, quiet, bind, then_here, refused_noted}
+use Rattle.sa_rules.proofs.Walks.{Noted, note, noting, noting_append, noted, faults_at, Same, state, value, Reads, quiet_unless, quiet, bind, then_here, refused_noted}
 use Rattle.sa_rules.proofs.Steps.{At, Last, seeing, one_last, one_as, refused_one, nothing_added}
 use Rattle.sa_rules.proofs.Names.{defines_see, defines_reads, aliases_reads}
 use Rattle.sa_rules.proofs.Qualifiers.{plain_qualifiers}

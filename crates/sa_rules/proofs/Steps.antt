@@ -1,5 +1,5 @@
 -- Each step of typing that an event stands for: it sees and refuses what the event does.
-use Rattle.std.proofs.Common.{◌≡◌, ℕ, Bool, true, false, List, [], ◌∷◌, ◌++◌, refl, sym, ap, subst, ◌∙◌, Option, Some, None}
+use Rattle.std.proofs.Common.{◌≡◌, ℕ, Bool, false, List, [], ◌∷◌, ◌++◌, refl, sym, ap, subst, ◌∙◌, Option, Some, None}
 use Rattle.std.proofs.lemmas.List.{append-nil}
 use Rattle.std.proofs.lemmas.Option.{slice_get-map}
 use Rattle.std.specs.Prelude.{map, option_map, slice_get}
@@ -27,7 +27,7 @@ use Rattle.sa_scopes.specs.Scopes.{Scope, index_from, meaning_of, at, is_some}
 use Rattle.sa_scopes.specs.Types.{num_of, scalar, defined, tagged, type_name, alias, plain, qualified, whole, not_void}
 use Rattle.sa_scopes.specs.Typing.{Typed, Typing, Gives, and_then, pure, refused, fault}
 use Rattle.sa_rules.specs.Events.{Event, Words, Void, Tag, Named, Qualifies, Object, Uses, Follows, begin}
-use Rattle.sa_rules.specs.Rules.{at_if, at_unless}
+use Rattle.sa_rules.specs.Rules.{at_unless}
 use Rattle.sa_rules.specs.Scenes.{Scene, Meaning, words_type, tag_type, named_type, is_complete}
 use Rattle.sa_rules.specs.Sight.{Open, Place, Sight, see}
 use Rattle.sa_rules.specs.Spots.{Spot, nowhere, spot_of, meant_spot}

@@ -20,7 +20,7 @@ use Rattle.sa_scopes.specs.Types.{num_of, plain, qualified, shape_of}
 use Rattle.sa_scopes.specs.Values.{is_constant}
 use Rattle.sa_typer.specs.Units.{is_entry_type}
 use Rattle.sa_rules.specs.Events.{Event, Misplaced, Volatile_before_bare, Words, Void, Tag, Named, Opens, Closes, Qualifies, Object, Uses, Follows, Indexes, Picks, Points, Loads, Assigns, Copies, Stores, Group_begins, Group_ends, Dimension, Starts, Starts_input, Next_item, Begins_with, Initial, Filled, Declares, Defines, Aliases, Member, Begins, Ends, Stray, Main}
-use Rattle.sa_rules.specs.Scenes.{Scene, Meaning, Alias, Function, blank, words_type, tag_type, named_type, object_type, named, declared, with_fields, within, is_taken}
+use Rattle.sa_rules.specs.Scenes.{Scene, Alias, Function, blank, words_type, tag_type, named_type, object_type, named, declared, with_fields, within, is_taken}
 use Rattle.sa_rules.specs.Spots.{Spot, nowhere, meant_spot, indexed, lost, stepped}
 use Rattle.sa_rules.specs.Values.{value_of}
 
