@@ -1,5 +1,5 @@
 -- What bounds say of the numbers at places.
-use Rattle.std.proofs.Common.{◌≡◌, ◌≢◌, ℕ, ◌+◌, ◌*◌, ◌^◌, ◌<◌, ◌≤◌, not, Bool, true, false, ℤ, pos, neg_ℤ, ◌+ℤ◌, ◌-ℤ◌, ◌≤ℤ◌, unsigned_abs, FitsSigned, to_z, of_z, Some, None, ap, ap₂, sym, subst, subst₂, refl, ◌∙◌, arith}
+use Rattle.std.proofs.Common.{◌≡◌, ◌≢◌, ℕ, ◌+◌, ◌*◌, ◌^◌, ◌<◌, ◌≤◌, not, Bool, true, false, ℤ, pos, negsuc, neg_ℤ, ◌+ℤ◌, ◌-ℤ◌, ◌≤ℤ◌, unsigned_abs, FitsSigned, to_z, of_z, Some, None, ap, ap₂, sym, subst, subst₂, refl, ◌∙◌, arith}
 use Rattle.std.specs.Int.{w128}
 use Rattle.std.proofs.lemmas.Int.{ints, clamps, to_z-of_z}
 use Rattle.std.proofs.lemmas.Option.{none-some, same_Some}
@@ -8,7 +8,7 @@ use Rattle.sa_dbm.specs.Bounds.{Bound, plus, half, AtMost, IsFlat}
 use Rattle.sa_dbm.specs.Tables.{Table, nodes, bar, entry, IsMatrix, IsWithin}
 use Rattle.sa_dbm.specs.Points.{Point, value, LiesIn}
 use Rattle.sa_dbm.specs.Closed.{IsClosed}
-use Rattle.sa_numbers.proofs.Sizes.{size-half}
+use Rattle.sa_numbers.proofs.Sizes.{size-half, size_of_sum, size-negated}
 use Rattle.sa_dbm.proofs.BoundLaws.{flat_halved}
 use Rattle.sa_dbm.proofs.Soundness.{below_halved}
 use Rattle.sa_octagon.specs.Packs.{node, signed, above, below, unary_of, pair_of}
@@ -18,14 +18,14 @@ fits_by_size : (b : ℤ) → unsigned_abs b ≤ 2 ^ 101 → FitsSigned w128 b
 fits_by_size (pos n) h = omega (arith, ints)
 fits_by_size (negsuc n) h = omega (arith, ints)
 
-fits_negated : (b : ℤ) → unsigned_abs b ≤ 2 ^ 100 → FitsSigned w128 (pos 0 -ℤ b)
+fits_negated : (b : ℤ) → unsigned_abs b ≤ 2 ^ 101 → FitsSigned w128 (pos 0 -ℤ b)
 fits_negated (pos n) h = omega (arith, ints)
 fits_negated (negsuc n) h = omega (arith, ints)
 
-pub negated_fits : (b : ℤ) → unsigned_abs b ≤ 2 ^ 100 → FitsSigned w128 (pos 0 -ℤ to_z w128 (of_z w128 b))
+pub negated_fits : (b : ℤ) → unsigned_abs b ≤ 2 ^ 101 → FitsSigned w128 (pos 0 -ℤ to_z w128 (of_z w128 b))
 negated_fits b h = rw (to_z-of_z w128 b (fits_by_size b (omega arith))) (fits_negated b h)
 
-pub negated : (b : ℤ) → unsigned_abs b ≤ 2 ^ 100 → to_z w128 (of_z w128 (pos 0 -ℤ to_z w128 (of_z w128 b))) ≡ neg_ℤ b
+pub negated : (b : ℤ) → unsigned_abs b ≤ 2 ^ 101 → to_z w128 (of_z w128 (pos 0 -ℤ to_z w128 (of_z w128 b))) ≡ neg_ℤ b
 negated b h =
     ap (λ z. to_z w128 (of_z w128 (pos 0 -ℤ z))) (to_z-of_z w128 b (fits_by_size b (omega arith)))
     ∙ to_z-of_z w128 (pos 0 -ℤ b) (fits_negated b h) ∙ (omega (arith, ints))
@@ -165,3 +165,31 @@ module _ (t : Table) (sx : Bool) (x : ℕ) (sy : Bool) (y : ℕ) (first : x < t.
     where
       turned : (a b d : ℤ) → a -ℤ b ≡ d → b -ℤ a ≡ neg_ℤ d
       turned a b d e = omega (arith, ints)
+
+-- ---- ends as they are stored
+
+pub new_ordered : (a b : ℤ) (s : Span) → a ≡ s.lo → b ≡ s.hi → IsInterval s → to_z w128 (of_z w128 a) ≤ℤ to_z w128 (of_z w128 b)
+new_ordered a b s e f h = subst₂ (λ a b. to_z w128 (of_z w128 a) ≤ℤ to_z w128 (of_z w128 b)) (sym e) (sym f) (let o = h.ordered in let l = h.low in let u = h.high in omega (arith, ints))
+
+pub new_low : (a : ℤ) (s : Span) → a ≡ s.lo → IsInterval s → low_limit ≤ℤ to_z w128 (of_z w128 a)
+new_low a s e h = subst (λ a. low_limit ≤ℤ to_z w128 (of_z w128 a)) (sym e) (let o = h.ordered in let l = h.low in let u = h.high in omega (arith, ints))
+
+pub new_high : (b : ℤ) (s : Span) → b ≡ s.hi → IsInterval s → to_z w128 (of_z w128 b) ≤ℤ high_limit
+new_high b s f h = subst (λ b. to_z w128 (of_z w128 b) ≤ℤ high_limit) (sym f) (let o = h.ordered in let l = h.low in let u = h.high in omega (arith, ints))
+
+pub doubled_fits : (b : ℤ) → unsigned_abs b ≤ 2 ^ 100 → FitsSigned w128 (to_z w128 (of_z w128 b) +ℤ to_z w128 (of_z w128 b))
+doubled_fits b h = rw (to_z-of_z w128 b (fits_by_size b (omega arith))) (twice b h)
+  where
+    twice : (b : ℤ) → unsigned_abs b ≤ 2 ^ 100 → FitsSigned w128 (b +ℤ b)
+    twice (pos n) h = omega (arith, ints)
+    twice (negsuc n) h = omega (arith, ints)
+
+pub doubled_is : (b : ℤ) → unsigned_abs b ≤ 2 ^ 100 → to_z w128 (of_z w128 (to_z w128 (of_z w128 b) +ℤ to_z w128 (of_z w128 b))) ≡ b +ℤ b
+doubled_is b h = rw (to_z-of_z w128 b (fits_by_size b (omega arith))) (to_z-of_z w128 (b +ℤ b) (rw (to_z-of_z w128 b (fits_by_size b (omega arith))) at (doubled_fits b h)))
+
+pub doubled_stored : (r w z : ℤ) → r ≡ to_z w128 (of_z w128 w) +ℤ to_z w128 (of_z w128 w) → w ≡ z → unsigned_abs z ≤ 2 ^ 70 → to_z w128 (of_z w128 r) ≡ z +ℤ z
+doubled_stored r w z e f h =
+    ap (λ r. to_z w128 (of_z w128 r)) (e ∙ ap (λ w. to_z w128 (of_z w128 w) +ℤ to_z w128 (of_z w128 w)) f) ∙ doubled_is z (omega arith)
+
+pub negated_stored : (s r z : ℤ) → s ≡ neg_ℤ (to_z w128 (of_z w128 r)) → to_z w128 (of_z w128 r) ≡ z +ℤ z → unsigned_abs z ≤ 2 ^ 70 → to_z w128 (of_z w128 s) ≡ neg_ℤ (z +ℤ z)
+negated_stored s r z e f h = ap (λ s. to_z w128 (of_z w128 s)) (e ∙ ap neg_ℤ f) ∙ to_z-of_z w128 (neg_ℤ (z +ℤ z)) (fits_by_size (neg_ℤ (z +ℤ z)) (rw size-negated (let k = size_of_sum z z (2 ^ 70) (2 ^ 70) h h in omega arith)))

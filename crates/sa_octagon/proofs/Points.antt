@@ -1,13 +1,15 @@
 -- What the calls do to the points of a table.
-use Rattle.std.proofs.Common.{◌≡◌, ◌≢◌, ℕ, ◌+◌, ◌*◌, ◌<◌, ◌≤◌, ◌==◌, not, Bool, true, false, cond, ℤ, neg_ℤ, ◌+ℤ◌, ◌-ℤ◌, ◌≤ℤ◌, ◌↔◌, ap, ap₂, sym, subst, refl, ◌∙◌, inl, inr, arith}
+use Rattle.std.proofs.Common.{◌≡◌, ◌≢◌, ℕ, ◌+◌, ◌*◌, ◌<◌, ◌≤◌, ◌==◌, not, Bool, true, false, cond, ℤ, neg_ℤ, ◌+ℤ◌, ◌-ℤ◌, ◌≤ℤ◌, unsigned_abs, ◌↔◌, length, ap, ap₂, sym, subst, refl, ◌∙◌, inl, inr, arith}
 use Rattle.std.proofs.lemmas.Bool.{cases_eq, eq-eqb, ne_eqb, eqb-true, eqb-false}
 use Rattle.std.proofs.lemmas.Int.{ints}
 use Rattle.sa_interval.specs.Span.{Span, Within}
-use Rattle.sa_dbm.specs.Tables.{Table, nodes, tightened, forgotten, shifted}
+use Rattle.sa_dbm.specs.Tables.{Table, nodes, IsWithin, tightened, forgotten, shifted}
 use Rattle.sa_dbm.specs.Points.{Point, value, LiesIn, moved, with_value}
 use Rattle.sa_dbm.proofs.TableLaws.{vars-tightened, vars-forgotten}
 use Rattle.sa_dbm.proofs.Soundness.{points_tightened, points_forgotten, points_shifted}
-use Rattle.sa_octagon.specs.Packs.{node, signed, guarded, met, ranged, set_to, assigned}
+use Rattle.sa_numbers.proofs.Sizes.{size_of_sum, size-negated}
+use Rattle.sa_dbm.proofs.Sizes.{within-tightened, within-forgotten, within-shifted, within_more}
+use Rattle.sa_octagon.specs.Packs.{Packed, IsPack, IsSpanWithin, node, signed, guarded, met, ranged, set_to, assigned}
 use Rattle.sa_octagon.proofs.Signs.{node_below, value-node, guarded_difference}
 
 -- a guard leaves exactly the points that meet it
@@ -69,7 +71,7 @@ points_met t x v h p = (λ l. to (second.0 l), λ l. second.1 (from l))
         down z lo k = omega (arith, ints)
 
 -- the place has the number that it was given, and the others theirs
-with_value-here : (p : Point) (x : ℕ) (z : ℤ) → with_value p x z x ≡ z
+pub with_value-here : (p : Point) (x : ℕ) (z : ℤ) → with_value p x z x ≡ z
 with_value-here p x z = ap (λ t. cond t z (p x)) (eq-eqb x x refl)
 
 with_value-other : (p : Point) (x : ℕ) (z : ℤ) (y : ℕ) → x ≢ y → with_value p x z y ≡ p y
@@ -146,3 +148,32 @@ points_assigned t x sign y c hx hy plain p l = by_test (x == y) refl
         subst (λ w. LiesIn (with_value p x w) (shifted t x c)) (sym number)
         (subst (λ q. LiesIn q (shifted t x c)) (moved_is p x c) ((points_shifted t x c p).0 l))
     by_test false e = points_set_to t x sign y c hx hy (eqb-false x y e) p l
+
+-- ---- places of a pack
+
+pub place_inside : (q p : Packed) (x : ℕ) → IsPack q → q ≡ p → x < length p.cells → x < p.table.vars
+place_inside q p x h e k = rw (subst (λ (r : Packed). r.table.vars ≡ length r.cells) e h.vars) k
+
+pub place_few : (q p : Packed) (x : ℕ) → IsPack q → q ≡ p → x < length p.cells → x < 8
+place_few q p x h e k = let few = subst (λ (r : Packed). length r.cells ≤ 8) e h.few in omega arith
+
+-- ---- how large bounds become
+
+pub within_met : (limit : ℕ) (t : Table) (x : ℕ) (v : Span) → IsWithin (limit + limit) t → IsSpanWithin limit v → IsWithin (limit + limit) (met t x v)
+within_met limit t x v h w =
+    within-tightened (limit + limit) _ (node true x) (node false x) (neg_ℤ (v.lo +ℤ v.lo))
+    (within-tightened (limit + limit) t (node false x) (node true x) (v.hi +ℤ v.hi) h (size_of_sum v.hi v.hi limit limit w.hi w.hi))
+    (rw size-negated (size_of_sum v.lo v.lo limit limit w.lo w.lo))
+
+pub within_assigned : (limit : ℕ) (t : Table) (x : ℕ) (sign : Bool) (y : ℕ) (c : ℤ) → IsWithin limit t → IsWithin (limit + (unsigned_abs c + unsigned_abs c)) (assigned t x sign y c)
+within_assigned limit t x sign y c h = by_test (x == y)
+  where
+    more : ℕ
+    more = limit + (unsigned_abs c + unsigned_abs c)
+
+    by_test : (b : Bool) → IsWithin more (cond b (shifted t x c) (set_to t x sign y c))
+    by_test true = within-shifted limit (unsigned_abs c) t x c h (omega arith)
+    by_test false =
+        within-tightened more _ _ _ (neg_ℤ c)
+        (within-tightened more _ _ _ c (within-forgotten more t x (within_more limit more t (omega arith) h)) (omega arith))
+        (rw size-negated (omega arith))

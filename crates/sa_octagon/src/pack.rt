@@ -6,7 +6,7 @@ ghost use Rattle.sa_dbm.specs.Closed.{ClosesTo, KeepsPoints, IsClosed, LeavesClo
 ghost use Rattle.sa_octagon.specs.Packs.{IsSpanWithin, signed, guarded, met, ranged, assigned, unary_of, pair_of};
 
 use crate::OutOfMemory;
-use crate::reads::{above, below, half, node};
+use crate::reads::{above, below, doubled, find, half, negated, node};
 use sa_dbm::{Closing, Matrix};
 use sa_interval::Interval;
 use std::alloc::Global;
@@ -51,12 +51,7 @@ impl Pack {
             ((k : ℕ) → k < length self.now.cells → slice_index self.now.cells k ≢ cell)
             (λ k. (k < length self.now.cells) × (slice_index self.now.cells k ≡ cell)) }
     {
-        for (k, c) in self.cells.iter().enumerate() {
-            if *c == cell {
-                return Some(k);
-            }
-        }
-        None
+        find(&self.cells, cell)
     }
 
     /// Bounds `sx x + sy y` by `k`, where the sign `true` is plus.
@@ -92,9 +87,8 @@ impl Pack {
         // exactly the points stay whose x lies in the interval
         ensures points { (p : Point) → LiesIn p self.new.table ↔ (LiesIn p self.old.table × Within v (p x)) }
     {
-        let (hi, lo) = (v.hi() + v.hi(), v.lo() + v.lo());
-        self.matrix.tighten(2 * x + 1, 2 * x, hi);
-        self.matrix.tighten(2 * x, 2 * x + 1, -lo);
+        self.matrix.tighten(2 * x + 1, 2 * x, doubled(v.hi()));
+        self.matrix.tighten(2 * x, 2 * x + 1, negated(doubled(v.lo())));
     }
 
     /// Gives `x` any number of `v`.
@@ -134,7 +128,7 @@ impl Pack {
         } else {
             self.matrix.forget(x);
             self.matrix.tighten(node(sign, y), node(true, x), c);
-            self.matrix.tighten(node(!sign, y), node(false, x), -c);
+            self.matrix.tighten(node(!sign, y), node(false, x), negated(c));
         }
     }
 
@@ -177,9 +171,11 @@ impl Pack {
         ensures value { result ≡ pair_of self.now.table sx x sy y }
         ensures points { (p : Point) → LiesIn p self.now.table → Within result (cut (signed sx (p x) +ℤ signed sy (p y))) }
     {
-        let (from, to) = (node(!sy, y), node(sx, x));
-        let hi = above(self.matrix.bound(from, to));
-        let lo = below(self.matrix.bound(to, from));
+        let matrix = &self.matrix;
+        let from = node(!sy, y);
+        let to = node(sx, x);
+        let hi = above(matrix.bound(from, to));
+        let lo = below(matrix.bound(to, from));
         Interval::new(lo, hi)
     }
 

@@ -1,6 +1,6 @@
-//! Nodes, and bounds as ends of intervals.
+//! Places and nodes, and bounds as ends of intervals.
 
-ghost use Rattle.std.specs.Prelude.{◌≡◌, ℕ, ℤ, ◌^◌, ◌<◌, ◌≤◌, unsigned_abs, Some};
+ghost use Rattle.std.specs.Prelude.{◌≡◌, ℕ, ℤ, ◌^◌, ◌<◌, ◌≤◌, length, slice_index, ◌+ℤ◌, ◌≢◌, neg_ℤ, unsigned_abs, Some, MatchOption};
 ghost use Rattle.sa_dbm.specs.Bounds.{half};
 ghost use Rattle.sa_octagon.specs.Packs.{node, above, below};
 
@@ -41,7 +41,37 @@ pub fn below(bound: Option<i128>) -> i128
     ensures { result ≡ below bound }
 {
     match bound {
-        Some(b) => -b,
+        Some(b) => negated(b),
         None => -LIMIT,
     }
+}
+
+/// Twice a number.
+pub fn doubled(z: i128) -> i128
+    requires { unsigned_abs z ≤ 2 ^ 100 }
+    ensures { result ≡ z +ℤ z }
+{
+    z + z
+}
+
+/// The place of a cell.
+pub fn find(cells: &[u32], cell: u32) -> Option<usize>
+    ensures { MatchOption result
+        ((k : ℕ) → k < length cells.now → slice_index cells.now k ≢ cell)
+        (λ k. (k < length cells.now) × (slice_index cells.now k ≡ cell)) }
+{
+    for k in 0..cells.len() {
+        if cells[k] == cell {
+            return Some(k);
+        }
+    }
+    None
+}
+
+/// A number with the other sign.
+pub fn negated(z: i128) -> i128
+    requires { unsigned_abs z ≤ 2 ^ 101 }
+    ensures { result ≡ neg_ℤ z }
+{
+    -z
 }
