@@ -193,3 +193,11 @@ doubled_stored r w z e f h =
 
 pub negated_stored : (s r z : ℤ) → s ≡ neg_ℤ (to_z w128 (of_z w128 r)) → to_z w128 (of_z w128 r) ≡ z +ℤ z → unsigned_abs z ≤ 2 ^ 70 → to_z w128 (of_z w128 s) ≡ neg_ℤ (z +ℤ z)
 negated_stored s r z e f h = ap (λ s. to_z w128 (of_z w128 s)) (e ∙ ap neg_ℤ f) ∙ to_z-of_z w128 (neg_ℤ (z +ℤ z)) (fits_by_size (neg_ℤ (z +ℤ z)) (rw size-negated (let k = size_of_sum z z (2 ^ 70) (2 ^ 70) h h in omega arith)))
+
+pub sum_stored : (a b : ℤ) → unsigned_abs a ≤ 2 ^ 64 → unsigned_abs b ≤ 2 ^ 64 → to_z w128 (of_z w128 (to_z w128 (of_z w128 a) +ℤ to_z w128 (of_z w128 b))) ≡ a +ℤ b
+sum_stored a b h k =
+    ap₂ (λ x y. to_z w128 (of_z w128 (x +ℤ y))) (to_z-of_z w128 a (fits_by_size a (omega arith))) (to_z-of_z w128 b (fits_by_size b (omega arith)))
+    ∙ to_z-of_z w128 (a +ℤ b) (fits_by_size (a +ℤ b) (let s = size_of_sum a b (2 ^ 64) (2 ^ 64) h k in omega arith))
+
+pub stored_again : (r : ℤ) → unsigned_abs r ≤ 2 ^ 65 → to_z w128 (of_z w128 r) ≡ r
+stored_again r h = to_z-of_z w128 r (fits_by_size r (omega arith))

@@ -1,3 +1,5 @@
 pub mod Signs
 pub mod Points
 pub mod Ends
+pub mod Filling
+pub mod Tops

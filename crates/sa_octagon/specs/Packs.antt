@@ -94,10 +94,14 @@ pair_of t sx x sy y = record { lo = below (entry t (node sx x) (node (not sy) y)
 unfoldable pub reach : List Span → ℕ → ℤ
 reach spans i = if i % 2 == 0 then (span_at spans (i / 2)).hi else neg_ℤ (span_at spans (i / 2)).lo
 
+-- the bound of node j minus node i, for two nodes, that follows of the spans: the negation of a node is the other of its place
+unfoldable pub reach_between : List Span → ℕ → ℕ → Bound
+reach_between spans i j = Some (reach spans j +ℤ reach spans (bar i))
+
 -- the closed table of the spans
 unfoldable pub top_of : List Span → Table
-top_of spans = table (length spans) (λ i j. if i == j then Some (pos 0) else Some (reach spans j +ℤ reach spans (bar i)))
+top_of spans = table (length spans) (λ i j. if i == j then Some (pos 0) else reach_between spans i j)
 
 -- each entry that the new table exceeds goes to the entry of the top
-unfoldable pub widened : Table → Table → Table → Table
-widened t new top = table t.vars (λ i j. if at_most (entry new i j) (entry t i j) then entry t i j else entry top i j)
+unfoldable pub widened : Table → Table → List Span → Table
+widened t new spans = table t.vars (λ i j. if at_most (entry new i j) (entry t i j) then entry t i j else entry (top_of spans) i j)

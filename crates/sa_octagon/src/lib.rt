@@ -5,6 +5,7 @@
 //! A change must keep that variable k of the matrix is the pack's cell number k, and that there is a span for each cell.
 #![tactic(auto)]
 
+mod fill;
 mod pack;
 mod reads;
 

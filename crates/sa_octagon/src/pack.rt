@@ -3,9 +3,10 @@ ghost use Rattle.sa_interval.specs.Span.{Within, cut};
 ghost use Rattle.sa_dbm.specs.Tables.{IsWithin, IsBelow, joined, is_below};
 ghost use Rattle.sa_dbm.specs.Points.{Point, LiesIn, with_value};
 ghost use Rattle.sa_dbm.specs.Closed.{ClosesTo, KeepsPoints, IsClosed, LeavesClosed, LeavesTight, KeepsLimits};
-ghost use Rattle.sa_octagon.specs.Packs.{IsSpanWithin, signed, guarded, met, ranged, assigned, unary_of, pair_of};
+ghost use Rattle.sa_octagon.specs.Packs.{AreSmall, IsSpanWithin, span_at, top_of, signed, guarded, met, ranged, assigned, unary_of, pair_of};
 
 use crate::OutOfMemory;
+use crate::fill::{fill_top, read_all};
 use crate::reads::{above, below, doubled, find, half, negated, node};
 use sa_dbm::{Closing, Matrix};
 use sa_interval::Interval;
@@ -34,6 +35,34 @@ impl Model for Pack {
 }
 
 impl Pack {
+    /// The pack in which each cell has any number of its span: `spans` has one for each of `cells`, of which there are 2 to 8.
+    ///
+    /// Its table is closed, and entries are at most 2^65 in size.
+    pub fn top(alloc: Global, cells: &[u32], spans: &[Interval]) -> Result<Pack, OutOfMemory>
+        requires some { 2 ≤ length cells.now }
+        requires few { length cells.now ≤ 8 }
+        requires spans { length spans.now ≡ length cells.now }
+        requires small { AreSmall spans.now }
+        ensures value { IfOk result (λ p. p.table ≡ top_of spans.now) }
+        ensures cells { IfOk result (λ p. p.cells ≡ cells.now) }
+        ensures spans { IfOk result (λ p. p.spans ≡ spans.now) }
+        ensures closed { IfOk result (λ p. IsClosed p.table) }
+        ensures within { IfOk result (λ p. IsWithin (2 ^ 65) p.table) }
+
+        // exactly the points whose numbers lie in the spans
+        ensures points { IfOk result (λ r. (p : Point) →
+            LiesIn p r.table ↔ ((k : ℕ) → k < length spans.now → Within (span_at spans.now k) (p k))) }
+    {
+        read_all(spans);
+        let mut matrix = Matrix::top(alloc, spans.len())?;
+        fill_top(&mut matrix, spans);
+        Ok(Pack {
+            cells: Vec::from_slice(alloc, cells)?,
+            spans: Vec::from_slice(alloc, spans)?,
+            matrix,
+        })
+    }
+
     /// An equal pack.
     pub fn copy(&self, alloc: Global) -> Result<Pack, OutOfMemory>
         ensures { IfOk result (λ p. p ≡ self.now) }
