@@ -4,9 +4,9 @@ use Rattle.std.proofs.lemmas.Bool.{cases_eq, eq-eqb, ne_eqb, eqb-true, or_left, 
 use Rattle.std.proofs.lemmas.List.{get_or-set_same, get_or-set_other}
 use Rattle.std.proofs.Math.ListN.{set}
 use Rattle.sa_dbm.specs.Bounds.{Bound, lesser, AtMost}
-use Rattle.sa_dbm.specs.Tables.{Table, nodes, bar, entry, tightened, top_table, IsMatrix, IsWithin}
+use Rattle.sa_dbm.specs.Tables.{Table, nodes, bar, entry, tightened, forgotten, top_table, IsMatrix, IsWithin}
 use Rattle.sa_dbm.proofs.BoundLaws.{at_most_refl, at_most_trans, at_most_antisym, lesser_left, lesser_right, lesser_greatest}
-use Rattle.sa_dbm.proofs.TableLaws.{entry-table, vars-table, vars-tightened, matrix-tightened, at_or_twin, tightened_entry}
+use Rattle.sa_dbm.proofs.TableLaws.{entry-table, vars-table, vars-tightened, vars-forgotten, matrix-tightened, at_or_twin, tightened_entry}
 use Rattle.sa_dbm.proofs.Sizes.{within-tightened}
 use Rattle.sa_octagon.specs.Filled.{at_place, HoldsEntries, lowered_to, AreEntries, IsFilled, IsEmpty}
 
@@ -110,6 +110,9 @@ module _ (n : ℕ) (f : ℕ → ℕ → Bound) (few : n ≤ 16) (entries : AreEn
 
 -- ---- a list of entries, place by place
 
+pub place_is : (entries : List Bound) (k : ℕ) → get_or entries k None ≡ at_place entries (k / 16) (k % 16)
+place_is entries k = ap (λ x. get_or entries x None) (omega arith)
+
 pub holds_more : (n : ℕ) (f : ℕ → ℕ → Bound) (few : n ≤ 16) (entries : List Bound) (i j k : ℕ) (b : Bound) → i * 16 + j ≡ k → j < 16 → k < length entries → b ≡ f i j
     → HoldsEntries n f k entries → HoldsEntries n f (k + 1) (set entries k b)
 holds_more n f few entries i j k b at inside room e h = λ p q r s t l.
@@ -123,3 +126,24 @@ holds_more n f few entries i j k b at inside room e h = λ p q r s t l.
 
 pub holds_skip : (n : ℕ) (f : ℕ → ℕ → Bound) (entries : List Bound) (k : ℕ) → ((p q : ℕ) → p < n → q < n → p ≢ q → p * 16 + q ≢ k) → HoldsEntries n f k entries → HoldsEntries n f (k + 1) entries
 holds_skip n f entries k none h = λ p q r s t l. (let other = none p q r s t in h p q r s t (omega arith))
+
+-- ---- one place more is forgotten
+
+pub forgotten_empty : (m new : Table) (k : ℕ) → new ≡ forgotten m k → ((p q : ℕ) → p < nodes m → q < nodes m → p ≢ q → p / 2 < k → entry m p q ≡ None)
+    → (p q : ℕ) → p < nodes new → q < nodes new → p ≢ q → p / 2 < k + 1 → entry new p q ≡ None
+unfolding forgotten
+forgotten_empty m new k e h p q a b n l =
+    ap (λ t. entry t p q) e
+    ∙ entry-table m.vars (λ i j. cond (i == j) (entry m i j) (cond (i / 2 == k || j / 2 == k) None (entry m i j))) p q (inside p a) (inside q b)
+    ∙ ap (λ t. cond t (entry m p q) (cond (p / 2 == k || q / 2 == k) None (entry m p q))) (ne_eqb p q n)
+    ∙ elim (cases_eq (p / 2) k) [
+      | inl same ↦ ap (λ t. cond (t || q / 2 == k) None (entry m p q)) (eq-eqb (p / 2) k same)
+      | inr other ↦ either (p / 2 == k || q / 2 == k) (h p q (inside p a) (inside q b) n (omega arith))
+    ]
+  where
+    inside : (i : ℕ) → i < nodes new → i < nodes m
+    inside i s = rw (ap (λ (t : Table). t.vars) e ∙ vars-forgotten m k) at s
+
+    either : (t : Bool) → entry m p q ≡ None → cond t None (entry m p q) ≡ None
+    either true e = refl
+    either false e = e

@@ -3,3 +3,4 @@ pub mod Points
 pub mod Ends
 pub mod Filling
 pub mod Tops
+pub mod Widened

@@ -1,5 +1,5 @@
 -- The table of the spans of places: its entries, that it is closed, and its points.
-use Rattle.std.proofs.Common.{◌≡◌, ◌≢◌, ℕ, zero, suc, ◌+◌, ◌-◌, ◌*◌, ◌/◌, ◌%◌, ◌^◌, ◌<◌, ◌≤◌, ◌==◌, Bool, true, false, cond, ℤ, pos, neg_ℤ, ◌+ℤ◌, ◌-ℤ◌, ◌≤ℤ◌, unsigned_abs, Some, None, List, length, get_or, FitsSigned, to_z, of_z, ◌↔◌, ap, ap₂, sym, subst, subst₂, refl, ◌∙◌, inl, inr, arith}
+use Rattle.std.proofs.Common.{◌≡◌, ◌≢◌, ℕ, zero, suc, ◌+◌, ◌-◌, ◌*◌, ◌/◌, ◌%◌, ◌^◌, ◌<◌, ◌≤◌, ◌==◌, Bool, true, false, cond, ℤ, pos, neg_ℤ, ◌+ℤ◌, ◌-ℤ◌, ◌≤ℤ◌, unsigned_abs, Some, None, List, [], ◌∷◌, length, get_or, FitsSigned, to_z, of_z, ◌↔◌, ap, ap₂, sym, subst, subst₂, refl, ◌∙◌, inl, inr, arith}
 use Rattle.std.specs.Int.{w128, int_shr}
 use Rattle.std.proofs.lemmas.Int.{ints, to_z-of_z}
 use Rattle.std.proofs.lemmas.Bool.{cases_eq, eq-eqb, ne_eqb}
@@ -18,25 +18,28 @@ use Rattle.sa_dbm.proofs.TableLaws.{bar_bar, bar_below, bar-half, bar-odd, bar_d
 use Rattle.sa_dbm.proofs.Sizes.{within-top}
 use Rattle.sa_dbm.proofs.Soundness.{value-bar}
 use Rattle.sa_dbm.proofs.Closures.{Rules, closed_by_rules}
-use Rattle.sa_octagon.specs.Packs.{AreSmall, span_at, node, reach, reach_between, top_of}
+use Rattle.sa_octagon.specs.Packs.{IsSpanWithin, AreSmall, AreWithin, span_at, node, reach, reach_between, top_of}
 use Rattle.sa_octagon.specs.Filled.{AreEntries, IsFilled, IsEmpty}
 use Rattle.sa_octagon.proofs.Filling.{filled_start, filled_entry, top_empty}
 use Rattle.sa_octagon.proofs.Signs.{node_below, value-node}
 
 -- ---- how large the entries are, and that they are the same in twins
 
-pub reach_size : (spans : List Span) (i : ℕ) → AreSmall spans → i / 2 < length spans → unsigned_abs (reach spans i) ≤ 2 ^ 64
+pub reach_size : (limit : ℕ) (spans : List Span) (i : ℕ) → AreWithin limit spans → i / 2 < length spans → unsigned_abs (reach spans i) ≤ limit
 unfolding reach
-reach_size spans i small h = let s = small (i / 2) h in either (i % 2 == 0) (span_at spans (i / 2)) s.lo s.hi
+reach_size limit spans i small h = let s = small (i / 2) h in either (i % 2 == 0) (span_at spans (i / 2)) s.lo s.hi
   where
-    either : (b : Bool) (s : Span) → unsigned_abs s.lo ≤ 2 ^ 64 → unsigned_abs s.hi ≤ 2 ^ 64 → unsigned_abs (cond b s.hi (neg_ℤ s.lo)) ≤ 2 ^ 64
+    either : (b : Bool) (s : Span) → unsigned_abs s.lo ≤ limit → unsigned_abs s.hi ≤ limit → unsigned_abs (cond b s.hi (neg_ℤ s.lo)) ≤ limit
     either true s p q = q
     either false s p q = rw size-negated p
 
+pub between_within : (limit : ℕ) (spans : List Span) (i j : ℕ) → AreWithin limit spans → i < 2 * length spans → j < 2 * length spans → unsigned_abs (reach spans j +ℤ reach spans (bar i)) ≤ limit + limit
+between_within limit spans i j small p q =
+    size_of_sum (reach spans j) (reach spans (bar i)) limit limit (reach_size limit spans j small (omega arith))
+    (reach_size limit spans (bar i) small (rw bar-half (omega arith)))
+
 pub between_size : (spans : List Span) (i j : ℕ) → AreSmall spans → i < 2 * length spans → j < 2 * length spans → unsigned_abs (reach spans j +ℤ reach spans (bar i)) ≤ 2 ^ 64 + 2 ^ 64
-between_size spans i j small p q =
-    size_of_sum (reach spans j) (reach spans (bar i)) (2 ^ 64) (2 ^ 64) (reach_size spans j small (omega arith))
-    (reach_size spans (bar i) small (rw bar-half (omega arith)))
+between_size spans i j small p q = between_within (2 ^ 64) spans i j small p q
 
 pub span_entries : (spans : List Span) → AreSmall spans → AreEntries (2 * length spans) (reach_between spans)
 unfolding reach_between
@@ -231,13 +234,12 @@ module _ (spans : List Span) (few : length spans ≤ 8) (small : AreSmall spans)
   unfolding reach_between
   sums p q a b n = filled p q a b n
 
-  pub filled_within : IsWithin (2 ^ 65) m
-  filled_within = λ i j z p q e.
+  pub filled_within : (limit : ℕ) → AreWithin limit spans → IsWithin (limit + limit) m
+  filled_within limit all = λ i j z p q e.
       elim (cases_eq i j) [
-        | inl same ↦ subst (λ x. unsigned_abs x ≤ 2 ^ 65) (same_Some (pos 0) z (sym (subst (λ l. entry m i l ≡ Some (pos 0)) same (f.matrix.diagonal i p)) ∙ e)) (omega arith)
+        | inl same ↦ subst (λ x. unsigned_abs x ≤ limit + limit) (same_Some (pos 0) z (sym (subst (λ l. entry m i l ≡ Some (pos 0)) same (f.matrix.diagonal i p)) ∙ e)) (omega arith)
         | inr n ↦
-            (let size = between_size spans i j small (rw f.size at p) (rw f.size at q) in
-            subst (λ x. unsigned_abs x ≤ 2 ^ 65) (same_Some _ z (sym (sums i j p q n) ∙ e)) (omega arith))
+            subst (λ x. unsigned_abs x ≤ limit + limit) (same_Some _ z (sym (sums i j p q n) ∙ e)) (between_within limit spans i j all (rw f.size at p) (rw f.size at q))
       ]
 
   -- the spans are those of intervals
@@ -263,3 +265,15 @@ module _ (spans : List Span) (few : length spans ≤ 8) (small : AreSmall spans)
 
         place_of : (i : ℕ) → i < nodes m → i / 2 < length spans
         place_of i p = let s = f.size in omega arith
+
+-- ---- lists of spans, one by one
+
+pub none_within : (limit : ℕ) → AreWithin limit []
+none_within limit = λ k h. absurd (omega arith)
+
+pub more_within : (limit : ℕ) (s : Span) (spans : List Span) → IsSpanWithin limit s → AreWithin limit spans → AreWithin limit (s ∷ spans)
+more_within limit s spans here rest = at
+  where
+    at : (k : ℕ) → k < length (s ∷ spans) → IsSpanWithin limit (span_at (s ∷ spans) k)
+    at zero h = here
+    at (suc k) h = rest k (omega arith)

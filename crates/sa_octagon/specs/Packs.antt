@@ -27,9 +27,12 @@ pub record IsSpanWithin (limit : ℕ) (s : Span) : Type 0 where
   pub lo : unsigned_abs s.lo ≤ limit
   pub hi : unsigned_abs s.hi ≤ limit
 
+abbrev pub AreWithin : ℕ → List Span → Type 0
+AreWithin limit spans = (k : ℕ) → k < length spans → IsSpanWithin limit (span_at spans k)
+
 -- the spans are within 2^64 in size
 abbrev pub AreSmall : List Span → Type 0
-AreSmall spans = (k : ℕ) → k < length spans → IsSpanWithin (2 ^ 64) (span_at spans k)
+AreSmall spans = AreWithin (2 ^ 64) spans
 
 -- What each pack keeps: 1 to 8 cells, and for each cell a variable of the table and a span.
 pub record IsPack (p : Packed) : Type 0 where

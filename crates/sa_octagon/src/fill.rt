@@ -89,6 +89,14 @@ pub fn read_all(spans: &[Interval])
     }
 }
 
+/// Reads a bound, so that it is known that twins are equal and that a node's bound on itself is 0.
+pub fn read_one(matrix: &Matrix)
+    requires { 1 ≤ matrix.now.vars }
+    ensures { IsMatrix matrix.now }
+{
+    let _ = matrix.bound(0, 0);
+}
+
 /// Takes all bounds from a matrix.
 pub fn forget_all(matrix: &mut Matrix, vars: usize)
     requires matrix { IsMatrix matrix.old }
@@ -104,20 +112,20 @@ pub fn forget_all(matrix: &mut Matrix, vars: usize)
     }
 }
 
-/// Lowers each entry of a matrix without bounds to that of a list, which has 16 places for each row.
-pub fn fill(matrix: &mut Matrix, nodes: usize, entries: &[Option<i128>])
-    requires few { nodes ≤ 16 }
-    requires size { nodes matrix.old ≡ nodes }
+/// Lowers each entry of a matrix of `count` nodes without bounds to that of a list, which has 16 places for each row.
+pub fn fill(matrix: &mut Matrix, count: usize, entries: &[Option<i128>])
+    requires few { count ≤ 16 }
+    requires size { nodes matrix.old ≡ count }
     requires matrix { IsMatrix matrix.old }
     requires within { IsWithin (2 ^ 100) matrix.old }
     requires empty { IsEmpty matrix.old }
     requires whole { length entries.now ≡ 256 }
-    requires entries { AreEntries nodes (at_place entries.now) }
-    ensures { IsFilled nodes (at_place entries.now) 256 matrix.new }
+    requires entries { AreEntries count (at_place entries.now) }
+    ensures { IsFilled count (at_place entries.now) 256 matrix.new }
 {
     for at in 0..ROW * ROW {
         let (i, j) = (at / ROW, at % ROW);
-        if i < nodes && j < nodes && i != j {
+        if i < count && j < count && i != j {
             lower_to(matrix, i, j, entries[at]);
         }
     }

@@ -3,10 +3,10 @@ ghost use Rattle.sa_interval.specs.Span.{Within, cut};
 ghost use Rattle.sa_dbm.specs.Tables.{IsWithin, IsBelow, joined, is_below};
 ghost use Rattle.sa_dbm.specs.Points.{Point, LiesIn, with_value};
 ghost use Rattle.sa_dbm.specs.Closed.{ClosesTo, KeepsPoints, IsClosed, LeavesClosed, LeavesTight, KeepsLimits};
-ghost use Rattle.sa_octagon.specs.Packs.{AreSmall, IsSpanWithin, span_at, top_of, signed, guarded, met, ranged, assigned, unary_of, pair_of};
+ghost use Rattle.sa_octagon.specs.Packs.{AreSmall, AreWithin, IsSpanWithin, span_at, top_of, widened, signed, guarded, met, ranged, assigned, unary_of, pair_of};
 
 use crate::OutOfMemory;
-use crate::fill::{fill_top, read_all};
+use crate::fill::{fill, fill_top, forget_all, read_all, read_one, widened_entries};
 use crate::reads::{above, below, doubled, find, half, negated, node};
 use sa_dbm::{Closing, Matrix};
 use sa_interval::Interval;
@@ -37,7 +37,7 @@ impl Model for Pack {
 impl Pack {
     /// The pack in which each cell has any number of its span: `spans` has one for each of `cells`, of which there are 2 to 8.
     ///
-    /// Its table is closed, and entries are at most 2^65 in size.
+    /// Its table is closed, and its entries are at most twice as large as the spans' bounds.
     pub fn top(alloc: Global, cells: &[u32], spans: &[Interval]) -> Result<Pack, OutOfMemory>
         requires some { 2 ≤ length cells.now }
         requires few { length cells.now ≤ 8 }
@@ -47,7 +47,7 @@ impl Pack {
         ensures cells { IfOk result (λ p. p.cells ≡ cells.now) }
         ensures spans { IfOk result (λ p. p.spans ≡ spans.now) }
         ensures closed { IfOk result (λ p. IsClosed p.table) }
-        ensures within { IfOk result (λ p. IsWithin (2 ^ 65) p.table) }
+        ensures within { IfOk result (λ p. (limit : ℕ) → AreWithin limit spans.now → IsWithin (limit + limit) p.table) }
 
         // exactly the points whose numbers lie in the spans
         ensures points { IfOk result (λ r. (p : Point) →
@@ -222,6 +222,27 @@ impl Pack {
         let mut result = self.copy(alloc)?;
         result.matrix.join_into(&o.matrix);
         Ok(result)
+    }
+
+    /// Widening (Miné 2006), where each entry that `new` exceeds goes to that of the pack's spans. It doesn't close.
+    pub fn widen(&mut self, new: &Pack)
+        requires cells { self.old.cells ≡ new.now.cells }
+        requires spans { self.old.spans ≡ new.now.spans }
+        requires within { IsWithin (2 ^ 70) self.old.table }
+        ensures value { self.new.table ≡ widened self.old.table new.now.table self.old.spans }
+        ensures cells { self.new.cells ≡ self.old.cells }
+        ensures spans { self.new.spans ≡ self.old.spans }
+        ensures within { (limit : ℕ) → 2 ^ 65 ≤ limit → IsWithin limit self.old.table → IsWithin limit self.new.table }
+
+        // the points of both that lie in the spans
+        ensures points { (p : Point) → LiesIn p (top_of self.old.spans) →
+            LiesIn p self.old.table ⊎ LiesIn p new.now.table → LiesIn p self.new.table }
+    {
+        read_one(&self.matrix);
+        read_one(&new.matrix);
+        let entries = widened_entries(&self.matrix, &new.matrix, &self.spans);
+        forget_all(&mut self.matrix, self.cells.len());
+        fill(&mut self.matrix, 2 * self.cells.len(), &entries);
     }
 
     /// Whether each entry is at most that of `o` (the order of Miné 2006).
