@@ -254,9 +254,9 @@ module _ (spans : List Span) (few : length spans ≤ 8) (small : AreSmall spans)
     pub filled_points : (p : Point) → LiesIn p m ↔ ((k : ℕ) → k < length spans → Within (span_at spans k) (p k))
     filled_points p = (
       λ l k h. (
-        let up = reached_below m (reach spans) f.matrix flat_reach sums p l (node true k) (rw f.size (node_below true k (length spans) h)) in
-        let down = reached_below m (reach spans) f.matrix flat_reach sums p l (node false k) (rw f.size (node_below false k (length spans) h)) in
-        ends (span_at spans k) (p k) (subst₂ (λ a b. a ≤ℤ b) (value-node p true k) (reach-up spans k) up) (subst₂ (λ a b. a ≤ℤ b) (value-node p false k) (reach-down spans k) down)),
+          let up = reached_below m (reach spans) f.matrix flat_reach sums p l (node true k) (rw f.size (node_below true k (length spans) h)) in
+          let down = reached_below m (reach spans) f.matrix flat_reach sums p l (node false k) (rw f.size (node_below false k (length spans) h)) in
+          ends (span_at spans k) (p k) (subst₂ (λ a b. a ≤ℤ b) (value-node p true k) (reach-up spans k) up) (subst₂ (λ a b. a ≤ℤ b) (value-node p false k) (reach-down spans k) down)),
       λ h. reached_points m (reach spans) f.matrix flat_reach sums p (λ i s. below_reach spans p i (h (i / 2) (place_of i s))),
     )
       where

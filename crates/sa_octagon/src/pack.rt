@@ -117,7 +117,8 @@ impl Pack {
         ensures points { (p : Point) → LiesIn p self.new.table ↔ (LiesIn p self.old.table × Within v (p x)) }
     {
         self.matrix.tighten(2 * x + 1, 2 * x, doubled(v.hi()));
-        self.matrix.tighten(2 * x, 2 * x + 1, negated(doubled(v.lo())));
+        self.matrix
+            .tighten(2 * x, 2 * x + 1, negated(doubled(v.lo())));
     }
 
     /// Gives `x` any number of `v`.
@@ -157,7 +158,8 @@ impl Pack {
         } else {
             self.matrix.forget(x);
             self.matrix.tighten(node(sign, y), node(true, x), c);
-            self.matrix.tighten(node(!sign, y), node(false, x), negated(c));
+            self.matrix
+                .tighten(node(!sign, y), node(false, x), negated(c));
         }
     }
 
