@@ -1,5 +1,5 @@
 -- What bounds say of the numbers at places.
-use Rattle.std.proofs.Common.{◌≡◌, ◌≢◌, ℕ, ◌+◌, ◌*◌, ◌^◌, ◌<◌, ◌≤◌, not, Bool, true, false, ℤ, pos, negsuc, neg_ℤ, ◌+ℤ◌, ◌-ℤ◌, ◌≤ℤ◌, unsigned_abs, FitsSigned, to_z, of_z, Some, None, ap, ap₂, sym, subst, subst₂, refl, ◌∙◌, arith}
+use Rattle.std.proofs.Common.{◌≡◌, ℕ, ◌^◌, ◌<◌, ◌≤◌, not, Bool, true, false, ℤ, pos, negsuc, neg_ℤ, ◌+ℤ◌, ◌-ℤ◌, ◌≤ℤ◌, unsigned_abs, FitsSigned, to_z, of_z, Some, None, ap, ap₂, sym, subst, subst₂, refl, ◌∙◌, arith}
 use Rattle.std.specs.Int.{w128}
 use Rattle.std.proofs.lemmas.Int.{ints, clamps, to_z-of_z}
 use Rattle.std.proofs.lemmas.Option.{none-some, same_Some}
@@ -12,7 +12,7 @@ use Rattle.sa_numbers.proofs.Sizes.{size-half, size_of_sum, size-negated}
 use Rattle.sa_dbm.proofs.BoundLaws.{flat_halved}
 use Rattle.sa_dbm.proofs.Soundness.{below_halved}
 use Rattle.sa_octagon.specs.Packs.{node, signed, above, below, unary_of, pair_of}
-use Rattle.sa_octagon.proofs.Signs.{node_below, node_apart, value-node, guarded_difference}
+use Rattle.sa_octagon.proofs.Signs.{node_below, value-node, guarded_difference}
 
 fits_by_size : (b : ℤ) → unsigned_abs b ≤ 2 ^ 101 → FitsSigned w128 b
 fits_by_size (pos n) h = omega (arith, ints)

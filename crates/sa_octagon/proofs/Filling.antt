@@ -4,7 +4,7 @@ use Rattle.std.proofs.lemmas.Bool.{cases_eq, eq-eqb, ne_eqb, eqb-true, or_left, 
 use Rattle.std.proofs.lemmas.List.{get_or-set_same, get_or-set_other}
 use Rattle.std.proofs.Math.ListN.{set}
 use Rattle.sa_dbm.specs.Bounds.{Bound, lesser, AtMost}
-use Rattle.sa_dbm.specs.Tables.{Table, nodes, bar, entry, tightened, forgotten, top_table, IsMatrix, IsWithin}
+use Rattle.sa_dbm.specs.Tables.{Table, nodes, bar, entry, forgotten, top_table, IsMatrix, IsWithin}
 use Rattle.sa_dbm.proofs.BoundLaws.{at_most_refl, at_most_trans, at_most_antisym, lesser_left, lesser_right, lesser_greatest}
 use Rattle.sa_dbm.proofs.TableLaws.{entry-table, vars-table, vars-tightened, vars-forgotten, matrix-tightened, at_or_twin, tightened_entry}
 use Rattle.sa_dbm.proofs.Sizes.{within-tightened}

@@ -1,6 +1,5 @@
 -- Places with a sign: their nodes, and the numbers there.
-use Rattle.std.proofs.Common.{◌≡◌, ◌≢◌, ℕ, ◌+◌, ◌*◌, ◌/◌, ◌%◌, ◌<◌, ◌≤◌, ◌==◌, not, Bool, true, false, cond, ℤ, neg_ℤ, ◌+ℤ◌, ◌-ℤ◌, ap, ap₂, sym, refl, ◌∙◌, arith}
-use Rattle.std.proofs.lemmas.Bool.{eq-eqb, ne_eqb}
+use Rattle.std.proofs.Common.{◌≡◌, ◌≢◌, ℕ, ◌+◌, ◌*◌, ◌/◌, ◌%◌, ◌<◌, ◌==◌, not, Bool, true, false, cond, ℤ, neg_ℤ, ◌+ℤ◌, ◌-ℤ◌, ap₂, ◌∙◌, arith}
 use Rattle.std.proofs.lemmas.Int.{ints}
 use Rattle.sa_dbm.specs.Points.{Point, value}
 use Rattle.sa_octagon.specs.Packs.{node, signed}

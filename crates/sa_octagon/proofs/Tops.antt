@@ -1,23 +1,22 @@
 -- The table of the spans of places: its entries, that it is closed, and its points.
-use Rattle.std.proofs.Common.{◌≡◌, ◌≢◌, ℕ, zero, suc, ◌+◌, ◌-◌, ◌*◌, ◌/◌, ◌%◌, ◌^◌, ◌<◌, ◌≤◌, ◌==◌, Bool, true, false, cond, ℤ, pos, neg_ℤ, ◌+ℤ◌, ◌-ℤ◌, ◌≤ℤ◌, unsigned_abs, Some, None, List, [], ◌∷◌, length, get_or, FitsSigned, to_z, of_z, ◌↔◌, ap, ap₂, sym, subst, subst₂, refl, ◌∙◌, inl, inr, arith}
-use Rattle.std.specs.Int.{w128, int_shr}
-use Rattle.std.proofs.lemmas.Int.{ints, to_z-of_z}
+use Rattle.std.proofs.Common.{◌≡◌, ◌≢◌, ℕ, zero, suc, ◌+◌, ◌-◌, ◌*◌, ◌/◌, ◌%◌, ◌^◌, ◌<◌, ◌≤◌, ◌==◌, Bool, true, false, cond, ℤ, pos, neg_ℤ, ◌+ℤ◌, ◌-ℤ◌, ◌≤ℤ◌, unsigned_abs, Some, List, [], ◌∷◌, length, get_or, to_z, of_z, ◌↔◌, ap, ap₂, sym, subst, subst₂, ◌∙◌, inl, inr, arith}
+use Rattle.std.specs.Int.{w128}
+use Rattle.std.proofs.lemmas.Int.{ints}
 use Rattle.std.proofs.lemmas.Bool.{cases_eq, eq-eqb, ne_eqb}
 use Rattle.std.proofs.lemmas.Option.{same_Some}
 use Rattle.std.proofs.lemmas.List.{get_or_default}
 use Rattle.sa_interval.specs.Span.{Span, Within, IsInterval}
 use Rattle.sa_numbers.proofs.Halves.{half-double}
-use Rattle.sa_numbers.proofs.Order.{≤ℤ_refl}
 use Rattle.sa_numbers.proofs.Sizes.{size_of_sum, size-negated}
-use Rattle.sa_dbm.specs.Bounds.{Bound, plus, half, even, AtMost, IsFlat}
+use Rattle.sa_dbm.specs.Bounds.{plus, half, even, AtMost, IsFlat}
 use Rattle.sa_dbm.specs.Tables.{Table, nodes, bar, entry, table, IsMatrix, IsWithin, top_table}
 use Rattle.sa_dbm.specs.Points.{Point, value, LiesIn}
 use Rattle.sa_dbm.specs.Closed.{IsClosed}
 use Rattle.sa_dbm.proofs.BoundLaws.{at_most_refl, plus_zero_left, plus-zero_right}
-use Rattle.sa_dbm.proofs.TableLaws.{bar_bar, bar_below, bar-half, bar-odd, bar_differs, table_is, entry-table, vars-top, matrix-top}
+use Rattle.sa_dbm.proofs.TableLaws.{bar_bar, bar_below, bar-half, bar-odd, bar_differs, table_is, vars-top, matrix-top}
 use Rattle.sa_dbm.proofs.Sizes.{within-top}
 use Rattle.sa_dbm.proofs.Soundness.{value-bar}
-use Rattle.sa_dbm.proofs.Closures.{Rules, closed_by_rules}
+use Rattle.sa_dbm.proofs.Closures.{closed_by_rules}
 use Rattle.sa_octagon.specs.Packs.{IsSpanWithin, AreSmall, AreWithin, span_at, node, reach, reach_between, top_of}
 use Rattle.sa_octagon.specs.Filled.{AreEntries, IsFilled, IsEmpty}
 use Rattle.sa_octagon.proofs.Filling.{filled_start, filled_entry, top_empty}

@@ -1,7 +1,7 @@
 -- Widening: that its entries are those of a matrix, and which points lie in what it gives.
-use Rattle.std.proofs.Common.{◌≡◌, ◌≢◌, ℕ, ◌+◌, ◌*◌, ◌^◌, ◌<◌, ◌≤◌, ◌==◌, Bool, true, false, cond, ℤ, pos, ◌-ℤ◌, unsigned_abs, List, length, Some, None, ◌⊎◌, inl, inr, ap, ap₂, sym, subst, subst₂, refl, ◌∙◌, arith}
+use Rattle.std.proofs.Common.{◌≡◌, ◌≢◌, ℕ, ◌*◌, ◌^◌, ◌<◌, ◌≤◌, ◌==◌, Bool, true, false, cond, ℤ, pos, ◌-ℤ◌, unsigned_abs, List, length, Some, None, ◌⊎◌, inl, inr, ap, ap₂, sym, subst, subst₂, refl, ◌∙◌, arith}
 use Rattle.std.proofs.lemmas.Int.{ints}
-use Rattle.std.proofs.lemmas.Bool.{cases_eq, eq-eqb, ne_eqb}
+use Rattle.std.proofs.lemmas.Bool.{cases_eq, ne_eqb}
 use Rattle.std.proofs.lemmas.Option.{same_Some}
 use Rattle.sa_interval.specs.Span.{Span}
 use Rattle.sa_dbm.specs.Bounds.{Bound, at_most, AtMost}
@@ -9,7 +9,7 @@ use Rattle.sa_dbm.specs.Tables.{Table, nodes, bar, entry, table, IsMatrix, IsWit
 use Rattle.sa_dbm.specs.Points.{Point, value, LiesIn}
 use Rattle.sa_dbm.proofs.BoundLaws.{at_most_trans}
 use Rattle.sa_dbm.proofs.TableLaws.{bar_below, bar_bar, entry-table, vars-table, table_is}
-use Rattle.sa_octagon.specs.Packs.{Packed, IsPack, AreSmall, reach, reach_between, top_of, widened}
+use Rattle.sa_octagon.specs.Packs.{Packed, IsPack, AreSmall, reach_between, top_of, widened}
 use Rattle.sa_octagon.specs.Filled.{at_place, AreEntries, IsFilled, HoldsEntries, widened_entry}
 use Rattle.sa_octagon.proofs.Filling.{filled_entry}
 use Rattle.sa_octagon.proofs.Tops.{span_entries, between_size}

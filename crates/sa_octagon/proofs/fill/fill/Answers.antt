@@ -1,5 +1,4 @@
-use Rattle.std.proofs.Common.{rules, ◌≡◌, ◌≢◌, ◌∙◌, ◌*◌, ◌+◌, ◌≤◌, ◌/◌, ◌%◌, ◌^◌, ◌<◌, Some, None, length, get_or, sym, subst, ap, arith}
-use Rattle.std.proofs.lemmas.List.{get_or_default}
+use Rattle.std.proofs.Common.{◌∙◌, ◌+◌, ◌/◌, ◌%◌, sym, subst, ap, arith}
 use Rattle.sa_octagon.specs.Filled.{at_place, lowered_to, IsFilled}
 use Rattle.sa_octagon.proofs.Filling.{place_is, filled_start, filled_more, filled_skip}
 use Rattle.sa_octagon.proofs.fill.fill.Goals as goal

@@ -1,10 +1,7 @@
-use Rattle.std.proofs.Common.{rules, ◌≡◌, ◌≢◌, ◌∙◌, ◌*◌, ◌+◌, ◌≤◌, ◌/◌, ◌%◌, ◌^◌, ◌<◌, Some, length, sym, subst, ap, arith}
-use Rattle.sa_dbm.specs.Tables.{Table, nodes, IsWithin, IsMatrix, top_table}
-use Rattle.sa_dbm.proofs.TableLaws.{vars-top, matrix-top}
-use Rattle.sa_dbm.proofs.Sizes.{within-top}
+use Rattle.std.proofs.Common.{◌∙◌, ◌*◌, ◌+◌, ◌≤◌, ◌/◌, ◌%◌, Some, length, sym, subst, ap, arith}
 use Rattle.sa_octagon.specs.Packs.{reach_between}
 use Rattle.sa_octagon.specs.Filled.{lowered_to, IsFilled}
-use Rattle.sa_octagon.proofs.Filling.{filled_start, filled_more, filled_skip}
+use Rattle.sa_octagon.proofs.Filling.{filled_more, filled_skip}
 use Rattle.sa_octagon.proofs.Ends.{stored_again}
 use Rattle.sa_octagon.proofs.Tops.{span_entries, top_start}
 use Rattle.sa_octagon.proofs.fill.fill_top.Goals as goal

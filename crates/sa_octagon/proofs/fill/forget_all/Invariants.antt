@@ -1,4 +1,4 @@
-use Rattle.std.proofs.Common.{◌≡◌, ◌≢◌, ℕ, ◌*◌, ◌^◌, ◌<◌, ◌/◌, None}
+use Rattle.std.proofs.Common.{◌≡◌, ◌≢◌, ℕ, ◌^◌, ◌<◌, ◌/◌, None}
 use Rattle.sa_dbm.specs.Tables.{nodes, entry, IsMatrix, IsWithin}
 use Rattle.sa_octagon.proofs.fill.forget_all.Given as goal
 

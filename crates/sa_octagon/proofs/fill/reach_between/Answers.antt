@@ -1,5 +1,4 @@
-use Rattle.std.proofs.Common.{◌≡◌, ◌∙◌, ◌*◌, ◌/◌, ◌<◌, ◌+ℤ◌, Some, length, sym, ap, ap₂, subst, arith}
-use Rattle.sa_dbm.specs.Tables.{bar}
+use Rattle.std.proofs.Common.{◌∙◌, ◌+ℤ◌, Some, ap, ap₂, arith}
 use Rattle.sa_dbm.proofs.TableLaws.{bar-half}
 use Rattle.sa_octagon.specs.Packs.{reach, reach_between}
 use Rattle.sa_octagon.proofs.Ends.{sum_stored}

@@ -1,4 +1,4 @@
-use Rattle.std.proofs.Common.{◌≡◌, ◌∙◌, Some, cond, sym, ap, ap₂}
+use Rattle.std.proofs.Common.{◌∙◌, Some, cond, sym, ap, ap₂}
 use Rattle.sa_dbm.specs.Bounds.{at_most}
 use Rattle.sa_dbm.specs.Tables.{entry}
 use Rattle.sa_octagon.specs.Packs.{reach_between}

@@ -1,6 +1,5 @@
-use Rattle.std.proofs.Common.{rules, true, not, ◌≡◌, ◌∙◌, ◌+◌, ◌^◌, ◌+ℤ◌, unsigned_abs, ◌≤◌, sym, subst, ap, arith}
-use Rattle.std.proofs.lemmas.Int.{ints}
-use Rattle.sa_dbm.specs.Tables.{Table, IsWithin}
+use Rattle.std.proofs.Common.{rules, ◌+◌, ◌^◌, ◌+ℤ◌, unsigned_abs, sym, subst, ap, arith}
+use Rattle.sa_dbm.specs.Tables.{IsWithin}
 use Rattle.sa_dbm.specs.Points.{LiesIn, with_value}
 use Rattle.sa_dbm.proofs.Sizes.{within_more}
 use Rattle.sa_octagon.specs.Packs.{Packed, signed}

@@ -1,6 +1,6 @@
-use Rattle.std.proofs.Common.{◌≡◌, ◌+◌, ◌^◌, sym, subst, ap}
+use Rattle.std.proofs.Common.{◌+◌, ◌^◌, sym, subst, ap}
 use Rattle.sa_interval.specs.Span.{Within}
-use Rattle.sa_dbm.specs.Tables.{Table, IsWithin}
+use Rattle.sa_dbm.specs.Tables.{IsWithin}
 use Rattle.sa_dbm.specs.Points.{LiesIn, with_value}
 use Rattle.sa_octagon.specs.Packs.{Packed}
 use Rattle.sa_octagon.proofs.Points.{with_value-here}

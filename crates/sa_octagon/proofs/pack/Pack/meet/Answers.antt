@@ -1,6 +1,6 @@
-use Rattle.std.proofs.Common.{true, false, ◌≡◌, ◌∙◌, ◌+◌, ◌^◌, ◌↔◌, ◌+ℤ◌, neg_ℤ, unsigned_abs, ◌≤◌, sym, subst, ap, ap₂, arith}
+use Rattle.std.proofs.Common.{true, false, ◌∙◌, ◌+◌, ◌^◌, ◌↔◌, ◌+ℤ◌, unsigned_abs, ◌≤◌, sym, subst, ap, ap₂, arith}
 use Rattle.sa_interval.specs.Span.{Within}
-use Rattle.sa_dbm.specs.Tables.{Table, IsWithin, tightened}
+use Rattle.sa_dbm.specs.Tables.{IsWithin, tightened}
 use Rattle.sa_dbm.specs.Points.{LiesIn}
 use Rattle.sa_dbm.proofs.Sizes.{within_more}
 use Rattle.sa_numbers.proofs.Sizes.{size_of_sum}

@@ -1,6 +1,6 @@
-use Rattle.std.proofs.Common.{rules, not, ◌≡◌, ◌∙◌, ◌+ℤ◌, sym, subst, ap, ap₂}
+use Rattle.std.proofs.Common.{rules, not, ◌∙◌, ◌+ℤ◌, sym, subst, ap, ap₂}
 use Rattle.sa_interval.specs.Span.{Within, cut}
-use Rattle.sa_dbm.specs.Tables.{Table, entry, IsMatrix}
+use Rattle.sa_dbm.specs.Tables.{entry, IsMatrix}
 use Rattle.sa_octagon.specs.Packs.{Packed, node, signed, above, below, pair_of}
 use Rattle.sa_octagon.proofs.Points.{place_inside}
 use Rattle.sa_octagon.proofs.Ends.{IsEnd, pair_low_end, pair_fits, pair_holds, new_ordered, new_low, new_high}

@@ -1,5 +1,5 @@
 use Rattle.sa_octagon.proofs.Tops.{filled_top, filled_within, filled_closed, filled_points}
-use Rattle.std.proofs.Common.{◌≤◌, length, arith}
+use Rattle.std.proofs.Common.{arith}
 use Rattle.sa_octagon.proofs.pack.Pack.top.Goals as goal
 
 pub returns-clause-value : goal.returns-clause-value

@@ -1,7 +1,7 @@
-use Rattle.std.proofs.Common.{rules, true, false, ◌≡◌, ◌∙◌, sym, subst, ap}
+use Rattle.std.proofs.Common.{rules, true, false, ◌∙◌, sym, subst, ap}
 use Rattle.sa_interval.specs.Span.{Within, cut}
 use Rattle.sa_dbm.specs.Bounds.{half}
-use Rattle.sa_dbm.specs.Tables.{Table, entry}
+use Rattle.sa_dbm.specs.Tables.{entry}
 use Rattle.sa_octagon.specs.Packs.{Packed, node, above, below, unary_of}
 use Rattle.sa_octagon.proofs.Points.{place_inside}
 use Rattle.sa_octagon.proofs.Ends.{IsEnd, low_end, unary_fits, unary_holds, new_ordered, new_low, new_high}
