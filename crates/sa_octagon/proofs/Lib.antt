@@ -4,3 +4,4 @@ pub mod Ends
 pub mod Filling
 pub mod Tops
 pub mod Widened
+pub mod Bounded

@@ -61,6 +61,10 @@ guarded t sx x sy y k = tightened t (node (not sy) y) (node sx x) k
 abbrev pub met : Table → ℕ → Span → Table
 met t x v = tightened (tightened t (node false x) (node true x) (v.hi +ℤ v.hi)) (node true x) (node false x) (neg_ℤ (v.lo +ℤ v.lo))
 
+-- the double of x is bounded on both sides, by numbers of at most that size
+abbrev pub IsBoundedAt : ℕ → ℕ → Table → Type 0
+IsBoundedAt limit x t = (s : Bool) → (z : ℤ) × (entry t (node s x) (node (not s) x) ≡ Some z) × (unsigned_abs z ≤ limit)
+
 -- x set to any number of v
 abbrev pub ranged : Table → ℕ → Span → Table
 ranged t x v = met (forgotten t x) x v

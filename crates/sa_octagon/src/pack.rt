@@ -3,7 +3,7 @@ ghost use Rattle.sa_interval.specs.Span.{Within, cut};
 ghost use Rattle.sa_dbm.specs.Tables.{IsWithin, IsBelow, joined, is_below};
 ghost use Rattle.sa_dbm.specs.Points.{Point, LiesIn, with_value};
 ghost use Rattle.sa_dbm.specs.Closed.{ClosesTo, KeepsPoints, IsClosed, LeavesClosed, LeavesTight, KeepsLimits};
-ghost use Rattle.sa_octagon.specs.Packs.{AreSmall, AreWithin, IsSpanWithin, span_at, top_of, widened, signed, guarded, met, ranged, assigned, unary_of, pair_of};
+ghost use Rattle.sa_octagon.specs.Packs.{AreSmall, AreWithin, IsSpanWithin, IsBoundedAt, span_at, top_of, widened, signed, guarded, met, ranged, assigned, unary_of, pair_of};
 
 use crate::OutOfMemory;
 use crate::fill::{fill, fill_top, forget_all, read_all, read_one, widened_entries};
@@ -112,6 +112,12 @@ impl Pack {
         ensures spans { self.new.spans ≡ self.old.spans }
         ensures within { (limit : ℕ) →
             IsWithin (limit + limit) self.old.table → IsSpanWithin limit v → IsWithin (limit + limit) self.new.table }
+
+        // x is bounded on both sides then, and each other place that was so still is
+        ensures bounded { (limit : ℕ) →
+            IsWithin (limit + limit) self.old.table → IsSpanWithin limit v → IsBoundedAt (limit + limit) x self.new.table }
+        ensures bounded_still { (limit y : ℕ) → y < length self.old.cells →
+            IsSpanWithin limit v → IsBoundedAt (limit + limit) y self.old.table → IsBoundedAt (limit + limit) y self.new.table }
 
         // exactly the points stay whose x lies in the interval
         ensures points { (p : Point) → LiesIn p self.new.table ↔ (LiesIn p self.old.table × Within v (p x)) }

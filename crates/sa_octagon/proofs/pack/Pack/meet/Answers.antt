@@ -4,8 +4,9 @@ use Rattle.sa_dbm.specs.Tables.{IsWithin, tightened}
 use Rattle.sa_dbm.specs.Points.{LiesIn}
 use Rattle.sa_dbm.proofs.Sizes.{within_more}
 use Rattle.sa_numbers.proofs.Sizes.{size_of_sum}
-use Rattle.sa_octagon.specs.Packs.{Packed, node}
+use Rattle.sa_octagon.specs.Packs.{Packed, IsBoundedAt, node}
 use Rattle.sa_octagon.proofs.Points.{points_met, place_inside, within_met}
+use Rattle.sa_octagon.proofs.Bounded.{met_bounded, met_bounded_still}
 use Rattle.sa_octagon.proofs.Ends.{doubled_stored, negated_stored}
 use Rattle.sa_octagon.proofs.pack.Pack.meet.Goals as goal
 
@@ -35,3 +36,14 @@ returns-clause-points c = λ p.
     let t = c.args.self.now.table in
     subst (λ n. LiesIn p n ↔ (LiesIn p t × Within c.args.v (p c.args.x))) (sym (returns-clause-value c))
     (points_met t c.args.x c.args.v (place_inside _ c.args.self.now c.args.x c.self.invariant c.self.view_is c.requires.x) p)
+
+pub returns-clause-bounded : goal.returns-clause-bounded
+returns-clause-bounded c = λ limit h w.
+    let x = place_inside _ c.args.self.now c.args.x c.self.invariant c.self.view_is c.requires.x in
+    subst (IsBoundedAt (limit + limit) c.args.x) (sym (returns-clause-value c)) (met_bounded limit c.args.self.now.table c.args.x c.args.v x w h)
+
+pub returns-clause-bounded_still : goal.returns-clause-bounded_still
+returns-clause-bounded_still c = λ limit y q w b.
+    let x = place_inside _ c.args.self.now c.args.x c.self.invariant c.self.view_is c.requires.x in
+    let other = place_inside _ c.args.self.now y c.self.invariant c.self.view_is q in
+    subst (IsBoundedAt (limit + limit) y) (sym (returns-clause-value c)) (met_bounded_still limit c.args.self.now.table c.args.x c.args.v x w y other b)
