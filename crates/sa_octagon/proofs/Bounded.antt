@@ -1,5 +1,5 @@
 -- That a meet bounds a place on both sides, and takes no such bound from another place.
-use Rattle.std.proofs.Common.{◌≡◌, ℕ, ◌+◌, ◌*◌, ◌<◌, ◌≤◌, ◌==◌, ◌&&◌, ◌||◌, not, Bool, true, false, cond, ℤ, neg_ℤ, ◌+ℤ◌, unsigned_abs, Some, None, inl, inr, ap, sym, refl, ◌∙◌, arith}
+use Rattle.std.proofs.Common.{◌≡◌, ℕ, ◌+◌, ◌<◌, ◌≤◌, ◌==◌, ◌&&◌, not, Bool, true, false, cond, ℤ, neg_ℤ, ◌+ℤ◌, unsigned_abs, Some, None, inl, inr, ap, refl, ◌∙◌}
 use Rattle.std.proofs.lemmas.Bool.{eq-eqb, or_left, and_from}
 use Rattle.sa_interval.specs.Span.{Span}
 use Rattle.sa_numbers.proofs.Sizes.{size_of_sum, size-negated}
