@@ -151,7 +151,10 @@ fn what_is_declared(rt: HostRuntime) -> Result<(), Fail> {
         ("int x = { 1 };", Refused(20, 1, 9)),
         ("int a[1] = { 1, y };", Refused(20, 1, 12)),
         ("int a[1] = { 1, { 2, y } };", Refused(20, 1, 12)),
-        ("int a[1] = { 1, (struct Nope)3000000000 };", Refused(20, 1, 12)),
+        (
+            "int a[1] = { 1, (struct Nope)3000000000 };",
+            Refused(20, 1, 12),
+        ),
         ("int a[2][1] = { {1}, {2, y} };", Refused(20, 1, 22)),
         ("int x = { y };", Refused(20, 1, 9)),
         ("struct S { int a; } s = { 1, y };", Refused(20, 1, 25)),
