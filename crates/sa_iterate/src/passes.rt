@@ -13,13 +13,13 @@ ghost use Rattle.sa_reference.specs.Passes.{joined, next};
 ghost use Rattle.sa_reference.specs.Reference.{reference};
 ghost use Rattle.sa_reference.specs.Sound.{widest};
 ghost use Rattle.sa_reference.specs.Steps.{nothing, both};
-ghost use Rattle.sa_env.specs.Grounds.{IsGround};
+ghost use Rattle.sa_cells.specs.Grounds.{IsGround};
 ghost use Rattle.sa_iterate.specs.Analysis.{found_by, main_body};
 ghost use Rattle.sa_iterate.specs.Straight.{domain, IsFairIn, stmt_after, stmt_found, straight, straight_found, kept, turn_after, facts_from, clock_found};
 
 use crate::OutOfMemory;
 use sa_base::{Alarm, Pos};
-use sa_env::{Ground, copy, initial, le, merge, tick, top, widen};
+use sa_cells::{Ground, copy, initial, le, merge, tick, top, widen};
 use sa_interval::Thresholds;
 use sa_reference::Flat;
 use sa_transfer::simple;

@@ -16,11 +16,11 @@ use Rattle.sa_typed.specs.declared.shape.Plain.TheVariants.{Scalar, Struct}
 use Rattle.sa_typed.specs.declared.shape.StructDef.{StructDef}
 use Rattle.sa_typed.specs.declared.program.Program.{Program}
 use Rattle.sa_typed.specs.declared.program.Var.{Var}
-use Rattle.sa_env.specs.declared.ground.Extent.{Extent}
-use Rattle.sa_env.specs.Sizes.{size, sizes, cells_before, among, no_array, extent, extents_from, all_extents, made_of}
-use Rattle.sa_env.proofs.CellLemmas.{split}
-use Rattle.sa_env.proofs.StepLemmas.{size-small, size-large, size-of-fields, width-is}
-use Rattle.sa_env.proofs.StructLemmas.{among-struct, among-none, among-field, extents-of, extents-at, before-next, before-most, fields_count, count-fields}
+use Rattle.sa_cells.specs.declared.ground.Extent.{Extent}
+use Rattle.sa_cells.specs.Sizes.{size, sizes, cells_before, among, no_array, extent, extents_from, all_extents, made_of}
+use Rattle.sa_cells.proofs.CellLemmas.{split}
+use Rattle.sa_cells.proofs.StepLemmas.{size-small, size-large, size-of-fields, width-is}
+use Rattle.sa_cells.proofs.StructLemmas.{among-struct, among-none, among-field, extents-of, extents-at, before-next, before-most, fields_count, count-fields}
 use Rattle.sa_report.specs.declared.names.Inside.{Inside}
 use Rattle.sa_report.specs.declared.names.Spot.{Spot}
 use Rattle.sa_report.specs.Names.{field_name, place_text, var_text}

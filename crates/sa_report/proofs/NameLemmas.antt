@@ -10,9 +10,9 @@ use Rattle.std.specs.Prelude.{if◌then◌else◌, nat_le, nat_lt, slice_get, co
 use Rattle.sa_typed.specs.Cells.{Step, one, all, of, Inner, behind, inner_cells, field_cells, each_behind, all_behind, most_elements}
 use Rattle.sa_typed.specs.Layouts.{Layout, Layouts, leaf, row, fields, no_field, field, nth_field, or_nothing, layout_of}
 use Rattle.sa_typed.specs.declared.program.Program.{Program}
-use Rattle.sa_env.specs.Sizes.{size}
-use Rattle.sa_env.proofs.ReachLemmas.{length-behind}
-use Rattle.sa_env.proofs.StepLemmas.{size-small, size-large}
+use Rattle.sa_cells.specs.Sizes.{size}
+use Rattle.sa_cells.proofs.ReachLemmas.{length-behind}
+use Rattle.sa_cells.proofs.StepLemmas.{size-small, size-large}
 use Rattle.sa_report.specs.declared.names.Spot.{Spot}
 use Rattle.sa_report.specs.Names.{field_name, steps_text, var_text, cell_name}
 use Rattle.sa_report.specs.Spots.{no_cell, cell_at, IsSpot, inner_name, field_inner, spot_name}

@@ -9,8 +9,8 @@ use Rattle.sa_typed.specs.Layouts.{layout_of}
 use Rattle.sa_typed.specs.declared.program.Home.{Home}
 use Rattle.sa_typed.specs.declared.program.Var.{Var}
 use Rattle.sa_typed.specs.declared.program.Program.{Program}
-use Rattle.sa_env.specs.declared.ground.Stretch.{Stretch}
-use Rattle.sa_env.specs.Sizes.{size, stretch_of, stretch_at}
+use Rattle.sa_cells.specs.declared.ground.Stretch.{Stretch}
+use Rattle.sa_cells.specs.Sizes.{size, stretch_of, stretch_at}
 use Rattle.sa_report.specs.declared.names.Spot.{Spot}
 use Rattle.sa_report.specs.declared.names.Sort.{Sort}
 use Rattle.sa_report.specs.declared.names.Sort.TheVariants as sort

@@ -9,9 +9,9 @@ use Rattle.sa_typed.specs.Cells.{Inner, Cell, inner_cells, cell_of, most_element
 use Rattle.sa_typed.specs.declared.program.Home.{Home}
 use Rattle.sa_typed.specs.declared.program.Var.{Var}
 use Rattle.sa_typed.specs.declared.program.Program.{Program}
-use Rattle.sa_env.specs.declared.ground.Extent.{Extent}
-use Rattle.sa_env.specs.Grounds.{IsGround}
-use Rattle.sa_env.specs.Sizes.{size, among, extent}
+use Rattle.sa_cells.specs.declared.ground.Extent.{Extent}
+use Rattle.sa_cells.specs.Grounds.{IsGround}
+use Rattle.sa_cells.specs.Sizes.{size, among, extent}
 use Rattle.sa_report.specs.declared.names.Spot.{Spot}
 use Rattle.sa_report.specs.declared.names.Inside.{Inside}
 use Rattle.sa_report.specs.declared.names.Cells.{Cells}

@@ -3,13 +3,13 @@
 ghost use Rattle.std.specs.Prelude.{◌≡◌, ◌++◌, ◌≤◌, ◌∷◌, length, IfOk, OnOk, Some};
 ghost use Rattle.sa_typed.specs.Cells.{cells};
 ghost use Rattle.sa_typed.specs.declared.shape.Plain.TheVariants.{Struct};
-ghost use Rattle.sa_env.specs.Grounds.{IsGround};
-ghost use Rattle.sa_env.specs.Sizes.{among, no_array};
+ghost use Rattle.sa_cells.specs.Grounds.{IsGround};
+ghost use Rattle.sa_cells.specs.Sizes.{among, no_array};
 ghost use Rattle.sa_report.specs.Names.{place_text};
 ghost use Rattle.sa_report.specs.Spots.{has_home, spots_from, spots_at, AreCells, IsSpot, spot_name, inside_layout, IsInside, inside_name, IsNext, Steps, HasField, IsField, index_text, star_text, dot_text, at_text};
 
 use sa_base::{OutOfMemory, Pos};
-use sa_env::{Extent, Ground};
+use sa_cells::{Extent, Ground};
 use sa_typed::{Home, Plain, Program, Var};
 use std::alloc::Global;
 

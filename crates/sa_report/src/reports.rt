@@ -19,7 +19,7 @@ ghost use Rattle.sa_report.specs.Spots.{AreCells, IsSpot, cell_at};
 use crate::names::{Cells, Spot, push_name};
 use crate::shown::{is_same, main_body, marks};
 use sa_base::{Alarm, OutOfMemory, Pos};
-use sa_env::copy;
+use sa_cells::copy;
 use sa_interval::Interval;
 use sa_iterate::{Analysis, LoopFacts};
 use sa_reference::Flat;

@@ -6,7 +6,7 @@ ghost use Rattle.sa_typed.specs.Cells.{cells};
 ghost use Rattle.sa_typed.specs.Executions.{same_pos};
 ghost use Rattle.sa_typed.specs.Links.{HasType};
 ghost use Rattle.sa_typed.specs.WellTyped.{IsTyped, IsTypedExpr, IsTypedStep, IsTypedStart, IsTypedSimple, IsTypedStmt};
-ghost use Rattle.sa_env.specs.Grounds.{IsGround};
+ghost use Rattle.sa_cells.specs.Grounds.{IsGround};
 ghost use Rattle.sa_iterate.specs.Analysis.{main_body};
 ghost use Rattle.sa_report.specs.Loops.{marks_of};
 ghost use Rattle.sa_report.specs.Spots.{AreCells};
@@ -14,7 +14,7 @@ ghost use Rattle.sa_report.specs.Marks.{marked, mark_at, mark_each, index_step, 
 
 use crate::names::Cells;
 use sa_base::{OutOfMemory, Pos};
-use sa_env::{Ground, named};
+use sa_cells::{Ground, named};
 use sa_interval::Interval;
 use sa_reference::Reach;
 use sa_typed::{Access, Expr, Link, Program, Simple, Start, Step, Stmt, fixed_index, is_constant};

@@ -6,7 +6,7 @@ use Rattle.std.specs.Prelude.{if◌then◌else◌, min, nat_le}
 use Rattle.sa_interval.specs.Span.{Span}
 use Rattle.sa_interval.specs.Rows.{join_of}
 use Rattle.sa_typed.specs.Cells.{Cell}
-use Rattle.sa_env.specs.Grounds.{stars}
+use Rattle.sa_cells.specs.Grounds.{stars}
 use Rattle.sa_reference.specs.Assignments.{starred_at, weakly, assigned, copied}
 use Rattle.sa_reference.specs.Environments.{put}
 use Rattle.sa_reference.specs.Values.{cell_span}

@@ -12,7 +12,7 @@ ghost use Rattle.sa_reference.specs.Passes.{alive_then};
 ghost use Rattle.sa_reference.specs.Values.{span_of, alarms_of, linked, with_both, access_cells, access_alarms, fixed_access_cells};
 ghost use Rattle.sa_reference.specs.Assignments.{with_cells, copied, assign_to, value_as, read_of, assign_alarms, declare_of, declare_alarms, simple_of, simple_alarms};
 ghost use Rattle.sa_reference.specs.Fair.{AreIn, alive_env};
-ghost use Rattle.sa_env.specs.Grounds.{IsGround};
+ghost use Rattle.sa_cells.specs.Grounds.{IsGround};
 ghost use Rattle.sa_transfer.specs.Lists.{HasTypedSteps, AreAlike, IsCopy, copy_of};
 
 use crate::OutOfMemory;
@@ -20,7 +20,7 @@ use crate::cells::{assign_by, copy_by, spans_at};
 use crate::fixed::fixed_cells;
 use crate::values::{converted, named_cells, operated, reached, read_of, value};
 use sa_base::{Alarm, Num, Pos};
-use sa_env::{Ground, named, set_items, set_ranges};
+use sa_cells::{Ground, named, set_items, set_ranges};
 use sa_interval::Interval;
 use sa_reference::Flat;
 use sa_typed::{Access, Expr, Operator, Plain, Program, Shape, Simple, Start};

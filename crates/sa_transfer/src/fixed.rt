@@ -4,12 +4,12 @@ ghost use Rattle.std.specs.Prelude.{◌≡◌, pos, Some, IfOk, option_map};
 ghost use Rattle.std.specs.List.{All};
 ghost use Rattle.sa_interval.specs.Rows.{single};
 ghost use Rattle.sa_reference.specs.Values.{fixed_reach, fixed_access_cells};
-ghost use Rattle.sa_env.specs.Grounds.{IsGround};
+ghost use Rattle.sa_cells.specs.Grounds.{IsGround};
 ghost use Rattle.sa_transfer.specs.Lists.{HasTypedStep, HasTypedSteps, fixed_reached};
 
 use crate::OutOfMemory;
 use crate::values::{single, with_reach};
-use sa_env::{Ground, named};
+use sa_cells::{Ground, named};
 use sa_reference::Reach;
 use sa_typed::{Access, Program, Step, fixed_index};
 use sqlite_items::Items;

@@ -14,12 +14,12 @@ ghost use Rattle.sa_reference.specs.Sound.{widest};
 ghost use Rattle.sa_reference.specs.Values.{indices, cell_span, joined, index_reach, index_alarms, with_one, with_both, linked, span_of, alarms_of, reach_of, step_alarms, access_cells, access_alarms};
 ghost use Rattle.sa_reference.specs.Assignments.{read_of};
 ghost use Rattle.sa_reference.specs.Fair.{AreIn};
-ghost use Rattle.sa_env.specs.Grounds.{IsGround};
+ghost use Rattle.sa_cells.specs.Grounds.{IsGround};
 ghost use Rattle.sa_transfer.specs.Lists.{AreAfter, span_after, alarms_after, HasTypedSteps, reached, indices_alarms, with_reach, join_with};
 
 use crate::OutOfMemory;
 use sa_base::{Alarm, Kind, Num, Pos};
-use sa_env::{Ground, named};
+use sa_cells::{Ground, named};
 use sa_interval::Interval;
 use sa_operators::{
     converted_span, note_conversion, note_operator, note_prefix, operator_span, prefix_span,

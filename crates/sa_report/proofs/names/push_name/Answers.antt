@@ -1,6 +1,6 @@
 use Rattle.std.proofs.Common.{rules, ◌≡◌, ◌∙◌, ◌++◌, ap, refl, List, slice_get}
 use Rattle.std.proofs.lemmas.Result.{on_ok_weaker}
-use Rattle.sa_env.specs.declared.ground.Stretch.{Stretch}
+use Rattle.sa_cells.specs.declared.ground.Stretch.{Stretch}
 use Rattle.sa_report.proofs.InsideLemmas.{begins-inside, begins-name, var-there}
 use Rattle.sa_report.proofs.SpotLemmas.{stretch-is}
 use Rattle.sa_report.proofs.names.push_name.Goals as goal

@@ -1,6 +1,6 @@
 use Rattle.std.proofs.Common.{◌≡◌, ◌∙◌, ◌<◌, ap, sym, length, get_or, ◌≤◌, subst, List, slice_get}
 use Rattle.sa_typed.specs.declared.program.Var.{Var}
-use Rattle.sa_env.specs.declared.ground.Stretch.{Stretch}
+use Rattle.sa_cells.specs.declared.ground.Stretch.{Stretch}
 use Rattle.sa_report.specs.Spots.{has_home}
 use Rattle.sa_report.proofs.SpotLemmas.{sort-more, sort-other, sort-end}
 use Rattle.sa_report.proofs.names.push_sort.Goals as goal

@@ -1,6 +1,0 @@
-use Rattle.std.proofs.Common.{◌≡◌, length}
-use Rattle.sa_env.specs.Spots.{StandFor}
-use Rattle.sa_env.proofs.slots.cores.Given as goal
-
-abbrev pub invariant-loop-k : goal.invariant-loop-k
-invariant-loop-k l = record { long : length l.cores.items ≡ l.k; each : StandFor l.program.structs l.cores.items }
