@@ -10,11 +10,11 @@ use Rattle.sa_base.specs.declared.num.Num.{Num}
 use Rattle.sa_base.specs.declared.pos.Pos.{Pos}
 use Rattle.sa_numbers.proofs.Order.{le_from}
 use Rattle.sa_typed.specs.Arithmetic.{is_signed, IsOf, IsOperand, IsRight, wrapped, as_num, operate, prefixed, converted, result_type, prefix_type}
-use Rattle.sa_typed.specs.Constants.{is_constant, are_constant, constant_value, constant_links, then_ok}
-use Rattle.sa_typed.specs.Links.{IsTypedLink, type_after, AreTypedAfter, HasType, all_constant, next_value, value_after, AreAfter}
+use Rattle.sa_typed.specs.Constants.{is_constant, are_constant as row_constant, all_are_constant, constant_value, constant_links, then_ok}
+use Rattle.sa_typed.specs.Links.{IsTypedLink, type_after, AreTypedAfter, HasType, all_constant, are_constant, next_value, value_after, AreAfter}
 use Rattle.sa_typed.specs.WellTyped.{type_of, links_type, converts, right_converts, IsLink, IsTypedExpr, AreTypedLinks}
 use Rattle.sa_typed.specs.declared.expr.Access.{Access}
-use Rattle.sa_typed.specs.declared.expr.Expr.{Expr, Number, Read', Input, Prefix', Cast', Chain', end_of-Expr, more_of-Expr, Row_of-Link, end_of-Link, more_of-Link, items-the_row-Link, items_hidden-the_row-Link-2}
+use Rattle.sa_typed.specs.declared.expr.Expr.{Expr, Number, Read', Input, Prefix', Cast', Chain', And', Or', Choice', end_of-Expr, more_of-Expr, Row_of-Expr, items-the_row-Expr, items_hidden-the_row-Expr-3, Row_of-Link, end_of-Link, more_of-Link, items-the_row-Link, items_hidden-the_row-Link-2}
 use Rattle.sa_typed.specs.declared.expr.Expr.TheVariants as v
 use Rattle.sa_typed.specs.declared.expr.Link.{Link, out-Link}
 use Rattle.sa_typed.specs.declared.expr.Operator.{Operator}
@@ -103,6 +103,9 @@ mutual
   constant_of p (Prefix' op q num n (more_of-Expr a end_of-Expr)) t = prefix_of op num (type_of a) (constant_value a) t.1 (constant_of p a t.0)
   constant_of p (Cast' q num n (more_of-Expr a end_of-Expr)) t = cast_of num (type_of a) (constant_value a) (constant_of p a t)
   constant_of p (Chain' n (more_of-Expr a end_of-Expr) m ls) t = links_of_type p ls (type_of a) (constant_value a) t.1 (constant_of p a t.0)
+  constant_of p (And' _ _ _ _) t = elim t [ ]
+  constant_of p (Or' _ _ _ _) t = elim t [ ]
+  constant_of p (Choice' _ _ _ _ _ _ _) t = elim t [ ]
 
   links_of_type : {n : _} (p : Program) (row : Row_of-Link n) (left : Num) (r : Result ℤ Kind) → AreTypedLinks p left row → GivesOf left r → GivesOf (links_type left row) (constant_links row r)
   links_of_type p end_of-Link left r t h = h
@@ -115,7 +118,17 @@ abbrev links_of : Expr → (n : _) × Row_of-Link n
 links_of (Chain' n a m ls) = (_, ls)
 links_of _ = (_, end_of-Link)
 
-constant_row : (n : _) (r : Row_of-Link n) → are_constant r ≡ all_constant (items-the_row-Link n r)
+abbrev operands_of : Expr → (n : _) × Row_of-Expr n
+operands_of (And' n a m rest) = (_, rest)
+operands_of (Or' n a m rest) = (_, rest)
+operands_of _ = (_, end_of-Expr)
+
+operands_row : (n : _) (r : Row_of-Expr n) → all_are_constant r ≡ are_constant (items-the_row-Expr n r)
+unfolding is_constant are_constant
+operands_row n end_of-Expr = refl
+operands_row n (more_of-Expr b rest) = ap (λ (x : Bool). is_constant b && x) (operands_row _ rest)
+
+constant_row : (n : _) (r : Row_of-Link n) → row_constant r ≡ all_constant (items-the_row-Link n r)
 unfolding is_constant all_constant
 constant_row n end_of-Link = refl
 constant_row n (more_of-Link op q num b rest) = ap (λ (x : Bool). is_constant b && x) (constant_row _ rest)
@@ -157,6 +170,22 @@ constant_chain a ls =
     let row = links_of (v.Chain a ls) in
     ap (λ (x : Bool). is_constant a && x) (constant_row row.0 row.1 ∙ ap all_constant (items_hidden-the_row-Link-2 ls))
 
+pub constant_and : (a : Expr) (es : List Expr) → is_constant (v.And a es) ≡ (is_constant a && are_constant es)
+unfolding is_constant Rattle.sa_typed.specs.declared.expr.Expr.TheBlock.hidden-the_row-Expr-1 denote.Hole.Carrier.hidden
+constant_and a es =
+    let row = operands_of (v.And a es) in
+    ap (λ (x : Bool). is_constant a && x) (operands_row row.0 row.1 ∙ ap are_constant (items_hidden-the_row-Expr-3 es))
+
+pub constant_or : (a : Expr) (es : List Expr) → is_constant (v.Or a es) ≡ (is_constant a && are_constant es)
+unfolding is_constant Rattle.sa_typed.specs.declared.expr.Expr.TheBlock.hidden-the_row-Expr-1 denote.Hole.Carrier.hidden
+constant_or a es =
+    let row = operands_of (v.Or a es) in
+    ap (λ (x : Bool). is_constant a && x) (operands_row row.0 row.1 ∙ ap are_constant (items_hidden-the_row-Expr-3 es))
+
+pub constant_choice : (a b c : Expr) (num : Num) → is_constant (v.Choice a b c num) ≡ (is_constant a && (is_constant b && is_constant c))
+unfolding is_constant Rattle.sa_typed.specs.declared.expr.Expr.TheBlock.hidden-the_row-Expr-1 denote.Hole.Carrier.hidden
+constant_choice a b c num = refl
+
 -- ---- the value of a constant expression, by its form
 pub value_number : (n : ℕ) (num : Num) → constant_value (v.Number n num) ≡ Ok (pos n)
 unfolding constant_value
@@ -186,6 +215,18 @@ value_chain a ls =
 
 -- ---- what typing promises of the parts of a form
 module _ (p : Program) where
+  and_typed : (a : Expr) (es : List Expr) → IsTypedExpr p (v.And a es) → ⊥
+  unfolding IsTypedExpr Rattle.sa_typed.specs.declared.expr.Expr.TheBlock.hidden-the_row-Expr-1 denote.Hole.Carrier.hidden
+  and_typed a es t = t
+
+  or_typed : (a : Expr) (es : List Expr) → IsTypedExpr p (v.Or a es) → ⊥
+  unfolding IsTypedExpr Rattle.sa_typed.specs.declared.expr.Expr.TheBlock.hidden-the_row-Expr-1 denote.Hole.Carrier.hidden
+  or_typed a es t = t
+
+  choice_typed : (a b c : Expr) (num : Num) → IsTypedExpr p (v.Choice a b c num) → ⊥
+  unfolding IsTypedExpr Rattle.sa_typed.specs.declared.expr.Expr.TheBlock.hidden-the_row-Expr-1 denote.Hole.Carrier.hidden
+  choice_typed a b c num t = t
+
   pub prefix_typed : (op : Prefix) (q : Pos) (num : Num) (a : Expr) → IsTypedExpr p (v.Prefix op q num a) → IsTypedExpr p a × IsTrue (converts (type_of a) num)
   unfolding IsTypedExpr Rattle.sa_typed.specs.declared.expr.Expr.TheBlock.hidden-the_row-Expr-1 denote.Hole.Carrier.hidden
   prefix_typed op q num a t = t
@@ -219,7 +260,25 @@ pub constant_end : (ls : List Link) (i : ℕ) → length ls ≤ i → all_consta
 unfolding all_constant
 constant_end ls i h e = e ∙ ap all_constant (drop_all i ls h)
 
-pub ruleset of_constants = (constant_number, constant_read, constant_input, constant_prefix, constant_cast, constant_chain)
+pub ruleset of_constants = (constant_number, constant_read, constant_input, constant_prefix, constant_cast, constant_chain, constant_and, constant_or, constant_choice)
+
+-- the same of operands without operators between
+module _ (es : List Expr) (i : ℕ) (e : Expr) (here : i < length es) (is : e ≡ get_or es i e) where
+  operands_from : are_constant es ≡ are_constant (drop i es) → are_constant es ≡ (is_constant e && are_constant (drop (i + 1) es))
+  unfolding are_constant
+  operands_from h = h ∙ ap are_constant (next es i e here is)
+
+  pub operand_more : are_constant es ≡ are_constant (drop i es) → is_constant e ≡ true → are_constant es ≡ are_constant (drop (i + 1) es)
+  operand_more h t = operands_from h ∙ ap (λ (x : Bool). x && are_constant (drop (i + 1) es)) t
+
+  pub operand_stop : are_constant es ≡ are_constant (drop i es) → is_constant e ≡ false → are_constant es ≡ false
+  operand_stop h t = operands_from h ∙ ap (λ (x : Bool). x && are_constant (drop (i + 1) es)) t
+
+pub operand_end : (es : List Expr) (i : ℕ) → length es ≤ i → are_constant es ≡ are_constant (drop i es) → are_constant es ≡ true
+unfolding are_constant
+operand_end es i h e = e ∙ ap are_constant (drop_all i es h)
+
+pub ruleset of_are_constant = (operand_more, operand_stop, operand_end)
 
 pub ruleset of_all_constant = (constant_more, constant_stop, constant_end)
 
@@ -251,7 +310,17 @@ chain_after e a ls is h =
     let t = chain_typed h.program a ls (subst (IsTypedExpr h.program) is h.typed) in
     record { program = h.program; left = type_of a; of_type = constant_of h.program a t.0; links = t.1 }
 
-pub ruleset of_values = (value_number, value_read, value_input, value_prefix, value_cast, value_chain, prefix_has, prefix_operand, cast_has, chain_has, chain_after)
+-- typing gives none of these
+pub and_value : (e a : Expr) (es : List Expr) → e ≡ v.And a es → HasType e → Ok (pos 0) ≡ constant_value e
+and_value e a es is h = elim (and_typed h.program a es (subst (IsTypedExpr h.program) is h.typed)) [ ]
+
+pub or_value : (e a : Expr) (es : List Expr) → e ≡ v.Or a es → HasType e → Ok (pos 0) ≡ constant_value e
+or_value e a es is h = elim (or_typed h.program a es (subst (IsTypedExpr h.program) is h.typed)) [ ]
+
+pub choice_value : (e a b c : Expr) (num : Num) → e ≡ v.Choice a b c num → HasType e → Ok (pos 0) ≡ constant_value e
+choice_value e a b c num is h = elim (choice_typed h.program a b c num (subst (IsTypedExpr h.program) is h.typed)) [ ]
+
+pub ruleset of_values = (value_number, value_read, value_input, value_prefix, value_cast, value_chain, prefix_has, prefix_operand, cast_has, chain_has, chain_after, and_value, or_value, choice_value)
 
 -- ---- links after a value
 module _ (r : Result ℤ Kind) (ls : List Link) (i : ℕ) (l : Link) (here : i < length ls) (is : l ≡ get_or ls i l) (after : AreAfter r (drop i ls)) where

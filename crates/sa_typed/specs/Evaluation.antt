@@ -1,14 +1,15 @@
 -- What an expression means over a store, a tape of input numbers and a clock. No interval stands here.
 -- Operands are evaluated from left to right, which ISO C leaves open (6.5p3) and this project fixes. An expression ends at
 -- its first error, whose kind and place are those of the operation (6.5p5).
-use Rattle.std.specs.Prelude.{ℕ, ℤ, pos, List, [], ◌∷◌, Bool, ◌&&◌, if◌then◌else◌, get_or, unsigned_abs, Result, Ok, Err}
+use Rattle.std.specs.Prelude.{ℕ, ℤ, pos, List, [], ◌∷◌, ◌++◌, Bool, ◌&&◌, not, if◌then◌else◌, get_or, unsigned_abs, Result, Ok, Err}
 use Rattle.std.specs.Int.RustNames.{int_le, int_lt}
+use Rattle.std.specs.Ordering.{int_eq}
 use Rattle.sa_base.specs.declared.pos.Pos.{Pos}
 use Rattle.sa_base.specs.declared.alarm.Kind.{Kind}
 use Rattle.sa_base.specs.declared.alarm.Kind.TheVariants.{Index}
 use Rattle.sa_base.specs.declared.num.Num.TheVariants.{I32}
-use Rattle.sa_typed.specs.Arithmetic.{operate, prefixed, converted}
-use Rattle.sa_typed.specs.declared.expr.Expr.{Expr, Number, Read', Input, Prefix', Cast', Chain', end_of-Expr, more_of-Expr, Row_of-Link, end_of-Link, more_of-Link, Row_of-Step, end_of-Step, more_of-Step}
+use Rattle.sa_typed.specs.Arithmetic.{operate, prefixed, converted, as_num}
+use Rattle.sa_typed.specs.declared.expr.Expr.{Expr, Number, Read', Input, Prefix', Cast', Chain', And', Or', Choice', end_of-Expr, more_of-Expr, Row_of-Expr, Row_of-Link, end_of-Link, more_of-Link, Row_of-Step, end_of-Step, more_of-Step}
 use Rattle.sa_typed.specs.declared.expr.Expr.TheVariants as e
 use Rattle.sa_typed.specs.declared.expr.Access.{Access}
 use Rattle.sa_typed.specs.declared.expr.Step.{Step, At', Field}
@@ -53,9 +54,10 @@ pub record Setting : Type 0 where
   pub inputs : List Range
   pub max_clock : ℤ
 
--- where an expression is evaluated: the calls that lead there, and the clock
+-- where an expression is evaluated: the object that each variable names there, and the clock. A reference names what its
+-- argument named, a local its object of this call, every other variable the one object that it has
 pub record Here : Type 0 where
-  pub path : List Pos
+  pub base : ℕ → Place
   pub clock : ℤ
 
 abbrev pub is_in : Range → ℤ → Bool
@@ -69,13 +71,29 @@ abbrev pub read : Range → List ℤ → Value ℤ
 read r [] = Stops Tape
 read r (z ∷ tape) = if is_in r z then Gives z tape else Stops Blocked
 
--- an element of a variable; globals and locals of main have no call before them
+-- a part of an object
+abbrev pub within : Place → List Part → Place
+within a parts = record { path = a.path; var = a.var; parts = a.parts ++ parts }
+
+-- what steps from a variable lead to
 abbrev pub place_of : Here → ℕ → List Part → Place
-place_of here v parts = record { path = []; var = v; parts = parts }
+place_of here v parts = within (here.base v) parts
 
 -- an index has to name an element (ISO C 6.5.6p8); its error stands at the bracket
 abbrev pub checked_index : Pos → ℕ → ℤ → List ℤ → Value ℕ
 checked_index p n i tape = if int_le (pos 0) i && int_lt i (pos n) then Gives (unsigned_abs i) tape else Stops (Error p Index)
+
+-- whether a number counts as false (ISO C 6.5.13p3, 6.5.14p3, 6.5.15p4, 6.8.4.1p2)
+abbrev pub is_zero : ℤ → Bool
+is_zero z = int_eq z (pos 0)
+
+-- the right part of an `&&` is evaluated only where the left one isn't 0 (ISO C 6.5.13p4)
+abbrev pub and_then : Value ℤ → (List ℤ → Value ℤ) → Value ℤ
+and_then v go = then_value v (λ x tape. if is_zero x then Gives (pos 0) tape else go tape)
+
+-- the right part of an `||` is evaluated only where the left one is 0 (ISO C 6.5.14p4)
+abbrev pub or_else : Value ℤ → (List ℤ → Value ℤ) → Value ℤ
+or_else v go = then_value v (λ x tape. if is_zero x then go tape else Gives (pos 1) tape)
 
 unfoldable mutual
   pub eval : Setting → Here → Store → Expr → List ℤ → Value ℤ
@@ -85,6 +103,21 @@ unfoldable mutual
   eval w here st (Prefix' op p num n (more_of-Expr a end_of-Expr)) tape = then_value (eval w here st a tape) (λ x tape. given p (prefixed op num x) tape)
   eval w here st (Cast' p num n (more_of-Expr a end_of-Expr)) tape = then_value (eval w here st a tape) (λ x tape. given p (converted num x) tape)
   eval w here st (Chain' n (more_of-Expr a end_of-Expr) m ls) tape = links_value w here st ls (eval w here st a tape)
+
+  eval w here st (And' n (more_of-Expr a end_of-Expr) m rest) tape = and_value w here st rest (eval w here st a tape)
+  eval w here st (Or' n (more_of-Expr a end_of-Expr) m rest) tape = or_value w here st rest (eval w here st a tape)
+  eval w here st (Choice' n (more_of-Expr a end_of-Expr) m (more_of-Expr b end_of-Expr) l (more_of-Expr c end_of-Expr) num) tape =
+      then_value (eval w here st a tape) (λ x tape. then_value (if is_zero x then eval w here st c tape else eval w here st b tape) (λ y tape. Gives (as_num num y) tape))
+
+  -- operands of `&&` after the value so far; the result is 1 where none is 0
+  pub and_value : {n : _} → Setting → Here → Store → Row_of-Expr n → Value ℤ → Value ℤ
+  and_value w here st end_of-Expr v = and_then v (λ tape. Gives (pos 1) tape)
+  and_value w here st (more_of-Expr b rest) v = and_then v (λ tape. and_value w here st rest (eval w here st b tape))
+
+  -- operands of `||` after the value so far; the result is 0 where all are
+  pub or_value : {n : _} → Setting → Here → Store → Row_of-Expr n → Value ℤ → Value ℤ
+  or_value w here st end_of-Expr v = or_else v (λ tape. Gives (pos 0) tape)
+  or_value w here st (more_of-Expr b rest) v = or_else v (λ tape. or_value w here st rest (eval w here st b tape))
 
   -- operators from left to right, from the value so far
   pub links_value : {n : _} → Setting → Here → Store → Row_of-Link n → Value ℤ → Value ℤ

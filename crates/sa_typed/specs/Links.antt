@@ -35,6 +35,10 @@ unfoldable pub all_constant : List Link → Bool
 all_constant [] = true
 all_constant (l ∷ ls) = is_constant (out-Link l).operand && all_constant ls
 
+unfoldable pub are_constant : List Expr → Bool
+are_constant [] = true
+are_constant (e ∷ es) = is_constant e && are_constant es
+
 abbrev pub next_value : Result ℤ Kind → Link → Result ℤ Kind
 next_value r l = then_ok r (λ x. then_ok (constant_value (out-Link l).operand) (operate (out-Link l).op (out-Link l).num x))
 

@@ -1,7 +1,7 @@
 -- No promise of the top calls rests on this page: it is for laws beside them, for proofs and for inner functions.
 -- That executions go on. Where the clock loop comes last in main and there is no other loop, an execution has fewer than n
 -- visits only because of an error, of the wait at the last clock, of a number that a read doesn't take, or of the tape's end.
-use Rattle.std.specs.Prelude.{ℕ, ◌+◌, ◌*◌, ◌≤◌, ◌<◌, ℤ, pos, ◌≡◌, ◌⊎◌, List, [], ◌∷◌, length, min, Bool, true, false, ◌&&◌}
+use Rattle.std.specs.Prelude.{ℕ, ◌+◌, ◌*◌, ◌≤◌, ◌<◌, ℤ, pos, ◌≡◌, ◌⊎◌, List, [], ◌∷◌, length, min, Bool, true, false, ◌&&◌, slice_get, Option, Some, None}
 use Rattle.std.specs.List.{AllByRecursion}
 use Rattle.sa_base.specs.declared.num.Num.{Num}
 use Rattle.sa_base.specs.declared.num.Num.TheVariants.{I32}
@@ -9,8 +9,8 @@ use Rattle.sa_base.specs.declared.pos.Pos.{Pos}
 use Rattle.sa_typed.specs.Arithmetic.{is_of}
 use Rattle.sa_typed.specs.Layouts.{nums, layout_of}
 use Rattle.sa_typed.specs.Evaluation.{End, Error, Clock, Blocked, Tape, Going, Setting, is_in, range_of}
-use Rattle.sa_typed.specs.Executions.{Visit, Run, State, Result, Goes, Breaks, Over, run, start, main_of, execution}
-use Rattle.sa_typed.specs.declared.expr.Expr.{Expr, Number, Read', Input, Prefix', Cast', Chain', end_of-Expr, more_of-Expr, Row_of-Link, end_of-Link, more_of-Link, Row_of-Step, end_of-Step, more_of-Step}
+use Rattle.sa_typed.specs.Executions.{Visit, Run, State, Result, Goes, Breaks, Over, Activation, run, start, block_of, bodies_of, main_of, main_activation, execution}
+use Rattle.sa_typed.specs.declared.expr.Expr.{Expr, Number, Read', Input, Prefix', Cast', Chain', And', Or', Choice', end_of-Expr, more_of-Expr, Row_of-Expr, Row_of-Link, end_of-Link, more_of-Link, Row_of-Step, end_of-Step, more_of-Step}
 use Rattle.sa_typed.specs.declared.expr.Expr.TheVariants as e
 use Rattle.sa_typed.specs.declared.expr.Access.{Access}
 use Rattle.sa_typed.specs.declared.expr.Step.{Step, At', Field}
@@ -18,36 +18,53 @@ use Rattle.sa_typed.specs.declared.stmt.Start.{Start}
 use Rattle.sa_typed.specs.declared.stmt.Start.TheVariants as begins
 use Rattle.sa_typed.specs.declared.stmt.Simple.{Simple}
 use Rattle.sa_typed.specs.declared.stmt.Simple.TheVariants.{Declare, Assign, Compound, Copy}
-use Rattle.sa_typed.specs.declared.stmt.Stmt.{Stmt, Row_of-Stmt, end_of-Stmt, more_of-Stmt}
+use Rattle.sa_typed.specs.declared.stmt.LoopKind.{LoopKind}
+use Rattle.sa_typed.specs.declared.stmt.LoopKind.TheVariants as kind
+use Rattle.sa_typed.specs.declared.stmt.Stmt.{Stmt, Row_of-Stmt, end_of-Stmt, more_of-Stmt, Row_of-Group, end_of-Group, more_of-Group}
 use Rattle.sa_typed.specs.declared.program.Program.{Program}
 
 -- ---- the clock loop last
+-- declarations, assignments and blocks of them
 unfoldable mutual
-  pub HasNoLoop : Stmt → Type 0
-  HasNoLoop (Stmt.Simple s) = Unit {0}
-  HasNoLoop (Stmt.Block' n all) = HaveNoLoop all
-  HasNoLoop (Stmt.Clock' q n all) = ⊥
+  pub IsStraight : Stmt → Type 0
+  IsStraight (Stmt.Simple s) = Unit {0}
+  IsStraight (Stmt.Static v) = Unit {0}
+  IsStraight (Stmt.Block' n all) = AreStraight all
+  IsStraight _ = ⊥
 
-  pub HaveNoLoop : {n : _} → Row_of-Stmt n → Type 0
-  HaveNoLoop end_of-Stmt = Unit {0}
-  HaveNoLoop (more_of-Stmt s rest) = HasNoLoop s × HaveNoLoop rest
+  pub AreStraight : {n : _} → Row_of-Stmt n → Type 0
+  AreStraight end_of-Stmt = Unit {0}
+  AreStraight (more_of-Stmt s rest) = IsStraight s × AreStraight rest
 
 abbrev pub IsEnd : {n : _} → Row_of-Stmt n → Type 0
 IsEnd end_of-Stmt = Unit {0}
 IsEnd (more_of-Stmt s rest) = ⊥
 
--- the clock loop at this place comes last, and there is no other loop
+abbrev pub IsWait : Stmt → Type 0
+IsWait Stmt.Wait = Unit {0}
+IsWait _ = ⊥
+
+-- straight statements, and the wait as the last one
+unfoldable pub WaitLast : {n : _} → Row_of-Stmt n → Type 0
+WaitLast end_of-Stmt = ⊥
+WaitLast (more_of-Stmt s rest) = (IsWait s × IsEnd rest) ⊎ (IsStraight s × WaitLast rest)
+
+abbrev pub IsTurn : LoopKind → Option Expr → Stmt → Option Simple → Type 0
+IsTurn kind.Clock None (Stmt.Block' n all) None = WaitLast all
+IsTurn _ _ _ _ = ⊥
+
+-- the clock loop at this place comes last, and nothing else than straight statements stands before it and in it
 unfoldable mutual
   pub EndsInClock : Pos → Stmt → Type 0
-  EndsInClock q (Stmt.Simple s) = ⊥
   EndsInClock q (Stmt.Block' n all) = EndInClock q all
-  EndsInClock q (Stmt.Clock' r n all) = (r ≡ q) × HaveNoLoop all
+  EndsInClock q (Stmt.Loop' r kind cond n (more_of-Stmt body end_of-Stmt) step) = (r ≡ q) × IsTurn kind cond body step
+  EndsInClock q _ = ⊥
 
   pub EndInClock : {n : _} → Pos → Row_of-Stmt n → Type 0
   EndInClock q end_of-Stmt = ⊥
-  EndInClock q (more_of-Stmt s rest) = (EndsInClock q s × IsEnd rest) ⊎ (HasNoLoop s × EndInClock q rest)
+  EndInClock q (more_of-Stmt s rest) = (EndsInClock q s × IsEnd rest) ⊎ (IsStraight s × EndInClock q rest)
 
--- ---- how many numbers of the tape are taken where nothing ends before
+-- ---- how many numbers of the tape are taken at most where nothing ends before
 unfoldable mutual
   pub reads : Expr → ℕ
   reads (Number n num) = 0
@@ -56,6 +73,14 @@ unfoldable mutual
   reads (Prefix' op p num n (more_of-Expr a end_of-Expr)) = reads a
   reads (Cast' p num n (more_of-Expr a end_of-Expr)) = reads a
   reads (Chain' n (more_of-Expr a end_of-Expr) m ls) = reads a + links_reads ls
+
+  reads (And' n (more_of-Expr a end_of-Expr) m rest) = reads a + all_of_reads rest
+  reads (Or' n (more_of-Expr a end_of-Expr) m rest) = reads a + all_of_reads rest
+  reads (Choice' n (more_of-Expr a end_of-Expr) m (more_of-Expr b end_of-Expr) l (more_of-Expr c end_of-Expr) num) = reads a + (reads b + reads c)
+
+  pub all_of_reads : {n : _} → Row_of-Expr n → ℕ
+  all_of_reads end_of-Expr = 0
+  all_of_reads (more_of-Expr b rest) = reads b + all_of_reads rest
 
   pub links_reads : {n : _} → Row_of-Link n → ℕ
   links_reads end_of-Link = 0
@@ -89,12 +114,13 @@ simple_reads p (Assign x num q a) = access_reads x + reads a
 simple_reads p (Compound x num op q work a) = access_reads x + reads a
 simple_reads p (Copy k x q y) = access_reads x + access_reads y
 
--- of a loop: in one turn
+-- of straight statements, and of one turn of the clock loop
 unfoldable mutual
   pub stmt_reads : Program → Stmt → ℕ
   stmt_reads p (Stmt.Simple s) = simple_reads p s
   stmt_reads p (Stmt.Block' n all) = all_reads p all
-  stmt_reads p (Stmt.Clock' q n all) = all_reads p all
+  stmt_reads p (Stmt.Loop' q kind cond n (more_of-Stmt body end_of-Stmt) step) = stmt_reads p body
+  stmt_reads p _ = 0
 
   pub all_reads : {n : _} → Program → Row_of-Stmt n → ℕ
   all_reads p end_of-Stmt = 0
@@ -109,6 +135,14 @@ unfoldable mutual
   takes w (Prefix' op p num n (more_of-Expr a end_of-Expr)) z = takes w a z
   takes w (Cast' p num n (more_of-Expr a end_of-Expr)) z = takes w a z
   takes w (Chain' n (more_of-Expr a end_of-Expr) m ls) z = takes w a z && links_take w ls z
+
+  takes w (And' n (more_of-Expr a end_of-Expr) m rest) z = takes w a z && all_of_take w rest z
+  takes w (Or' n (more_of-Expr a end_of-Expr) m rest) z = takes w a z && all_of_take w rest z
+  takes w (Choice' n (more_of-Expr a end_of-Expr) m (more_of-Expr b end_of-Expr) l (more_of-Expr c end_of-Expr) num) z = takes w a z && (takes w b z && takes w c z)
+
+  pub all_of_take : {n : _} → Setting → Row_of-Expr n → ℤ → Bool
+  all_of_take w end_of-Expr z = true
+  all_of_take w (more_of-Expr b rest) z = takes w b z && all_of_take w rest z
 
   pub links_take : {n : _} → Setting → Row_of-Link n → ℤ → Bool
   links_take w end_of-Link z = true
@@ -150,7 +184,8 @@ unfoldable mutual
   pub stmt_takes : Program → Setting → Stmt → ℤ → Bool
   stmt_takes p w (Stmt.Simple s) z = simple_takes p w s z
   stmt_takes p w (Stmt.Block' n all) z = all_take p w all z
-  stmt_takes p w (Stmt.Clock' q n all) z = all_take p w all z
+  stmt_takes p w (Stmt.Loop' q kind cond n (more_of-Stmt body end_of-Stmt) step) z = stmt_takes p w body z
+  stmt_takes p w _ z = true
 
   pub all_take : {n : _} → Program → Setting → Row_of-Stmt n → ℤ → Bool
   all_take p w end_of-Stmt z = true
@@ -198,7 +233,7 @@ IsOver (Over r) = Unit {0}
 -- main neither comes to its end nor breaks, so its run is what the execution tells. Where no evaluation errs, and the tape
 -- has enough numbers and each of them is taken, there are n visits, or one for each clock where those are fewer
 pub record HasVisits (p : Program) (w : Setting) (q : Pos) (last : ℕ) (tape : List ℤ) (n : ℕ) : Type 0 where
-  pub over : IsOver (run p w [] (main_of p) (start p tape n))
+  pub over : IsOver (run p w (bodies_of p w (length p.funcs)) (main_activation p) (main_of p) (start p tape n))
   pub lasts : Lasts p w q last tape n (execution p w tape n)
   pub full : IsNoError (execution p w tape n).end → stmt_reads p (main_of p) * (n + 1) ≤ length tape →
       AllByRecursion (λ z. stmt_takes p w (main_of p) z ≡ true) tape → length (execution p w tape n).visits ≡ min n (last + 1)
@@ -213,6 +248,24 @@ IsUnbroken (Goes st) = Unit {0}
 IsUnbroken (Breaks st) = ⊥
 IsUnbroken (Over r) = Unit {0}
 
--- no statement breaks, wherever it stands, so nothing leaves the clock loop
+-- each break stands in a loop
+unfoldable mutual
+  pub IsClosed : Stmt → Type 0
+  IsClosed (Stmt.Block' n all) = AreClosed all
+  IsClosed (Stmt.If' e n (more_of-Stmt a end_of-Stmt) m (more_of-Stmt b end_of-Stmt) marked) = IsClosed a × IsClosed b
+  IsClosed (Stmt.Switch' e num n groups marked) = HaveClosed groups
+  IsClosed Stmt.Break = ⊥
+  IsClosed _ = Unit {0}
+
+  pub AreClosed : {n : _} → Row_of-Stmt n → Type 0
+  AreClosed end_of-Stmt = Unit {0}
+  AreClosed (more_of-Stmt s rest) = IsClosed s × AreClosed rest
+
+  pub HaveClosed : {n : _} → Row_of-Group n → Type 0
+  HaveClosed end_of-Group = Unit {0}
+  HaveClosed (more_of-Group labels n (more_of-Stmt body end_of-Stmt) rest) = IsClosed body × HaveClosed rest
+
+-- no break gets out of a statement whose breaks stand in loops, where that is so of the body of each function
 abbrev pub NeverBreaks : Type 0
-NeverBreaks = (p : Program) (w : Setting) (path : List Pos) (s : Stmt) (st : State) → IsUnbroken (run p w path s st)
+NeverBreaks = (p : Program) (w : Setting) → ((f : ℕ) → IsClosed (block_of (slice_get p.funcs f))) →
+    (depth : ℕ) (act : Activation) (s : Stmt) → IsClosed s → (st : State) → IsUnbroken (run p w (bodies_of p w depth) act s st)

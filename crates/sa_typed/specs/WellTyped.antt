@@ -1,5 +1,6 @@
 -- What typing promises of a program: steps follow what their variable is made of, and each operand converts to the type in
--- which its operator works without loss of meaning. Executions and analyses of such programs meet no other.
+-- which its operator works without loss of meaning. Executions and analyses of such programs meet no other. Of the forms that
+-- typing doesn't give yet no program is typed (`⊥`).
 use Rattle.std.specs.Prelude.{ℕ, pos, ◌≡◌, ◌==◌, Bool, true, false, ◌&&◌, ◌||◌, not, IsTrue, if◌then◌else◌, get_or, slice_get, Option, Some, None}
 use Rattle.std.specs.Int.RustNames.{int_le}
 use Rattle.sa_base.specs.Numbers.{num_lo, num_hi}
@@ -8,7 +9,7 @@ use Rattle.sa_base.specs.declared.num.Num.TheVariants.{I32}
 use Rattle.sa_typed.specs.Arithmetic.{is_signed, is_of, result_type, prefix_type}
 use Rattle.sa_typed.specs.Constants.{is_fixed}
 use Rattle.sa_typed.specs.Layouts.{Layout, leaf, row, fields, nth_field, layout_of, nums}
-use Rattle.sa_typed.specs.declared.expr.Expr.{Expr, Number, Read', Input, Prefix', Cast', Chain', end_of-Expr, more_of-Expr, Row_of-Link, end_of-Link, more_of-Link, Row_of-Step, end_of-Step, more_of-Step}
+use Rattle.sa_typed.specs.declared.expr.Expr.{Expr, Number, Read', Input, Prefix', Cast', Chain', And', Or', Choice', end_of-Expr, more_of-Expr, Row_of-Link, end_of-Link, more_of-Link, Row_of-Step, end_of-Step, more_of-Step}
 use Rattle.sa_typed.specs.declared.expr.Expr.TheVariants as e
 use Rattle.sa_typed.specs.declared.expr.Access.{Access}
 use Rattle.sa_typed.specs.declared.expr.Operator.{Operator}
@@ -19,6 +20,7 @@ use Rattle.sa_typed.specs.declared.stmt.Start.TheVariants as begins
 use Rattle.sa_typed.specs.declared.stmt.Simple.{Simple}
 use Rattle.sa_typed.specs.declared.stmt.Simple.TheVariants.{Declare, Assign, Compound, Copy}
 use Rattle.sa_typed.specs.declared.stmt.Stmt.{Stmt, Row_of-Stmt, end_of-Stmt, more_of-Stmt}
+use Rattle.sa_typed.specs.declared.stmt.LoopKind.TheVariants as kind
 use Rattle.sa_typed.specs.declared.program.Input as program
 use Rattle.sa_typed.specs.declared.program.Var.{Var}
 use Rattle.sa_typed.specs.declared.program.Program.{Program}
@@ -36,6 +38,9 @@ type_of (Input k num) = num
 type_of (Prefix' op p num n (more_of-Expr a end_of-Expr)) = prefix_type op num
 type_of (Cast' p num n (more_of-Expr a end_of-Expr)) = num
 type_of (Chain' n (more_of-Expr a end_of-Expr) m ls) = links_type (type_of a) ls
+type_of (And' n a m rest) = I32
+type_of (Or' n a m rest) = I32
+type_of (Choice' n a m b l c num) = num
 
 -- operands of one type are converted to another: an unsigned one reduces them, a signed one has to hold them all
 unfoldable pub converts : Num → Num → Bool
@@ -88,6 +93,10 @@ unfoldable mutual
   IsTypedExpr p (Cast' q num n (more_of-Expr a end_of-Expr)) = IsTypedExpr p a
   IsTypedExpr p (Chain' n (more_of-Expr a end_of-Expr) m ls) = IsTypedExpr p a × AreTypedLinks p (type_of a) ls
 
+  IsTypedExpr p (And' n a m rest) = ⊥
+  IsTypedExpr p (Or' n a m rest) = ⊥
+  IsTypedExpr p (Choice' n a m b l c num) = ⊥
+
   -- links after a left operand of this type
   pub AreTypedLinks : {n : _} → Program → Num → Row_of-Link n → Type 0
   AreTypedLinks p left end_of-Link = Unit {0}
@@ -139,7 +148,9 @@ unfoldable mutual
   pub IsTypedStmt : Program → Stmt → Type 0
   IsTypedStmt p (Stmt.Simple s) = IsTypedSimple p s
   IsTypedStmt p (Stmt.Block' n all) = AreTypedStmts p all
-  IsTypedStmt p (Stmt.Clock' q n all) = AreTypedStmts p all
+  IsTypedStmt p (Stmt.Loop' q kind.Clock None n (more_of-Stmt body end_of-Stmt) None) = IsTypedStmt p body
+  IsTypedStmt p Stmt.Wait = Unit {0}
+  IsTypedStmt p _ = ⊥
 
   pub AreTypedStmts : {n : _} → Program → Row_of-Stmt n → Type 0
   AreTypedStmts p end_of-Stmt = Unit {0}

@@ -3,7 +3,7 @@
 ghost use Rattle.std.specs.Prelude.{◌≡◌, Ok, IfOk};
 ghost use Rattle.sa_typed.specs.Arithmetic.{IsOperand, IsRight, operate, prefixed, converted};
 ghost use Rattle.sa_typed.specs.Constants.{is_constant, constant_value, then_ok, element_of, fixed_index};
-ghost use Rattle.sa_typed.specs.Links.{HasType, AreAfter, all_constant, value_after};
+ghost use Rattle.sa_typed.specs.Links.{HasType, AreAfter, all_constant, are_constant, value_after};
 
 use crate::arithmetic::converted;
 use crate::expr::{Expr, Link, Operator, Prefix};
@@ -21,7 +21,25 @@ pub fn is_constant(e: &Expr) -> bool
         Expr::Prefix(_, _, _, operand) => is_constant(operand.get()),
         Expr::Cast(_, _, operand) => is_constant(operand.get()),
         Expr::Chain(first, links) => is_constant(first.get()) && all_constant(links.as_slice()),
+        Expr::And(first, rest) => is_constant(first.get()) && are_constant(rest.as_slice()),
+        Expr::Or(first, rest) => is_constant(first.get()) && are_constant(rest.as_slice()),
+        Expr::Choice(test, first, second, _) => {
+            is_constant(test.get()) && is_constant(first.get()) && is_constant(second.get())
+        }
     }
+}
+
+#[cycle(constants)]
+#[tactic(auto, using(crate::proofs::LinkLaws::of_are_constant))]
+fn are_constant(operands: &[Expr]) -> bool
+    ensures { result ≡ are_constant operands.now }
+{
+    for operand in operands {
+        if !is_constant(operand) {
+            return false;
+        }
+    }
+    true
 }
 
 #[cycle(constants)]
@@ -89,6 +107,10 @@ fn constant_value(e: &Expr) -> Result<i128, Kind>
         Expr::Prefix(op, _, num, operand) => prefixed(*op, *num, constant_value(operand.get())),
         Expr::Cast(_, num, operand) => cast(*num, constant_value(operand.get())),
         Expr::Chain(first, links) => value_after(links.as_slice(), constant_value(first.get())),
+        // typing gives none of these yet
+        Expr::And(_, _) => Ok(0),
+        Expr::Or(_, _) => Ok(0),
+        Expr::Choice(_, _, _, _) => Ok(0),
     }
 }
 

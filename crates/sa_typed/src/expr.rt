@@ -53,6 +53,12 @@ pub enum Expr {
     Cast(Pos, Num, Boxed<Expr>),
     /// Operands with operators of one level between, which group to the left.
     Chain(Boxed<Expr>, Items<Link>),
+    /// Operands with `&&` between. Each one is evaluated only where those before it are not 0, and the result is an `int`.
+    And(Boxed<Expr>, Items<Expr>),
+    /// Operands with `||` between. Each one is evaluated only where those before it are 0, and the result is an `int`.
+    Or(Boxed<Expr>, Items<Expr>),
+    /// `?:`: the condition, the two results, of which one is evaluated, and the type to which that one is converted.
+    Choice(Boxed<Expr>, Boxed<Expr>, Boxed<Expr>, Num),
 }
 
 /// An operator, its place, the type in which it works, and its right operand. Both operands are converted to that type, but

@@ -9,19 +9,15 @@
 mod arithmetic;
 mod constants;
 mod expr;
-mod laws;
 mod program;
 mod shape;
 mod stmt;
-#[cfg(test)]
-mod tests;
 
 pub use arithmetic::{
     as_num, bits, common, converted, is_of, is_signed, literal_type, promoted, wrapped,
 };
 pub use constants::{fixed_index, is_constant};
 pub use expr::{Access, Expr, Link, Operator, Prefix, Step};
-pub use laws::{goes_on, never_breaks};
 pub use program::{Func, Home, Input, Param, Place, Program, Var};
 pub use shape::{FieldDef, Part, Plain, Shape, StructDef};
-pub use stmt::{Simple, Start, Stmt};
+pub use stmt::{Arg, Destination, Group, Label, LoopKind, Simple, Start, Stmt};
