@@ -2,7 +2,7 @@
 use Rattle.std.proofs.Common.{◌≡◌, ℕ, ◌+◌, ◌*◌, ◌≤◌, ◌<◌, zero, suc, ℤ, pos, ◌+ℤ◌, true, false, List, [], ◌∷◌, ◌++◌, length, length-append, refl, ap, sym, subst, ◌∙◌, arith, inl, inr}
 use Rattle.std.proofs.lemmas.Int.{ints}
 use Rattle.std.proofs.Math.Nat.{mul-le-mul_left, mul-suc, mul-zero}
-use Rattle.std.specs.Prelude.{Bool, ◌&&◌, if◌then◌else◌, min, unsigned_abs, Result as Either, Ok, Err}
+use Rattle.std.specs.Prelude.{Bool, ◌&&◌, if◌then◌else◌, slice_get, Option, Some, None, min, unsigned_abs, Result as Either, Ok, Err}
 use Rattle.std.specs.Int.RustNames.{int_le, int_lt}
 use Rattle.std.specs.List.{AllByRecursion}
 use Rattle.sa_base.specs.declared.alarm.Kind.{Kind}
@@ -10,12 +10,12 @@ use Rattle.sa_base.specs.declared.alarm.Kind.TheVariants.{Index}
 use Rattle.sa_base.specs.declared.num.Num.{Num}
 use Rattle.sa_base.specs.declared.num.Num.TheVariants.{I32}
 use Rattle.sa_base.specs.declared.pos.Pos.{Pos}
-use Rattle.sa_typed.specs.Arithmetic.{operate, prefixed, converted, is_of}
+use Rattle.sa_typed.specs.Arithmetic.{operate, prefixed, converted, as_num, is_of}
 use Rattle.sa_typed.specs.Layouts.{nums, layout_of, num_in}
-use Rattle.sa_typed.specs.Evaluation.{End, Error, Clock, Blocked, Tape, Going, Value, Gives, Stops, then_value, given, Store, Range, Setting, Here, is_in, range_of, read, checked_index, place_of, eval, links_value, steps_value, step_value, read_place, access_place}
-use Rattle.sa_typed.specs.Executions.{Loop, Visit, Run, State, Result, Goes, Breaks, Over, Turn, Again, Leaves, Ended, with_value, with_store, here_in, any_numbers, simple_value, declare_value, then_state, then_again, visit_with, turns, run, run_all, wait, clock_turn, main_of, start, ended, execution, converted_value, compound_value, filled, strong_update, copied}
-use Rattle.sa_typed.specs.Progress.{HasNoLoop, HaveNoLoop, EndsInClock, EndInClock, reads, links_reads, steps_reads, step_reads, place_reads, access_reads, start_reads, simple_reads, stmt_reads, all_reads, takes, links_take, steps_take, step_takes, place_takes, access_takes, is_of_all, start_takes, simple_takes, stmt_takes, all_take, SomeFails, AreTurns, Causes, Lasts, IsNoError, IsOver, HasVisits, GoesOn, IsUnbroken}
-use Rattle.sa_typed.specs.declared.expr.Expr.{Expr, Number, Read', Input, Prefix', Cast', Chain', end_of-Expr, more_of-Expr, Row_of-Link, end_of-Link, more_of-Link, Row_of-Step, end_of-Step, more_of-Step}
+use Rattle.sa_typed.specs.Evaluation.{End, Error, Clock, Blocked, Tape, Going, Value, Gives, Stops, then_value, given, Store, Range, Setting, Here, is_in, range_of, read, checked_index, place_of, is_zero, and_then, or_else, eval, and_value, or_value, links_value, steps_value, step_value, read_place, access_place}
+use Rattle.sa_typed.specs.Executions.{Loop, Visit, Run, State, Result, Goes, Breaks, Over, Turn, Again, Leaves, Ended, with_value, with_store, Activation, Bodies, here_in, any_numbers, simple_value, declare_value, then_state, then_again, visit_with, turns, after_body, turn_with, tested, stepped, turn_of, decided, called, entered, delivered, chosen, is_listed, run, run_all, run_group, wait, block_of, bodies_of, main_of, main_activation, start, ended, execution, converted_value, compound_value, filled, strong_update, copied}
+use Rattle.sa_typed.specs.Progress.{IsStraight, AreStraight, IsEnd, WaitLast, IsTurn, EndsInClock, EndInClock, reads, all_of_reads, links_reads, steps_reads, step_reads, place_reads, access_reads, start_reads, simple_reads, stmt_reads, all_reads, takes, all_of_take, links_take, steps_take, step_takes, place_takes, access_takes, is_of_all, start_takes, simple_takes, stmt_takes, all_take, SomeFails, AreTurns, Causes, Lasts, IsNoError, IsOver, HasVisits, GoesOn, NeverBreaks, IsUnbroken, IsClosed, AreClosed, HaveClosed}
+use Rattle.sa_typed.specs.declared.expr.Expr.{Expr, Number, Read', Input, Prefix', Cast', Chain', And', Or', Choice', end_of-Expr, more_of-Expr, Row_of-Expr, Row_of-Link, end_of-Link, more_of-Link, Row_of-Step, end_of-Step, more_of-Step}
 use Rattle.sa_typed.specs.declared.expr.Expr.TheVariants as e
 use Rattle.sa_typed.specs.declared.expr.Operator.{Operator}
 use Rattle.sa_typed.specs.declared.expr.Step.{Step, At', Field}
@@ -24,7 +24,12 @@ use Rattle.sa_typed.specs.declared.stmt.Start.{Start}
 use Rattle.sa_typed.specs.declared.stmt.Start.TheVariants as begins
 use Rattle.sa_typed.specs.declared.stmt.Simple.{Simple}
 use Rattle.sa_typed.specs.declared.stmt.Simple.TheVariants.{Declare, Assign, Compound, Copy}
-use Rattle.sa_typed.specs.declared.stmt.Stmt.{Stmt, Row_of-Stmt, end_of-Stmt, more_of-Stmt}
+use Rattle.sa_typed.specs.declared.stmt.Destination.{Destination}
+use Rattle.sa_typed.specs.declared.stmt.Label.{Label}
+use Rattle.sa_typed.specs.declared.stmt.LoopKind.{LoopKind}
+use Rattle.sa_typed.specs.declared.stmt.LoopKind.TheVariants as kind
+use Rattle.sa_typed.specs.declared.stmt.Stmt.{Stmt, Row_of-Stmt, end_of-Stmt, more_of-Stmt, Row_of-Group, end_of-Group, more_of-Group}
+use Rattle.sa_typed.specs.declared.stmt.Stmt.TheVariants as stmt
 use Rattle.sa_typed.specs.declared.program.Program.{Program}
 
 -- ---- tests
@@ -42,9 +47,9 @@ refused false b h e = refl
 
 -- ---- evaluations. `test` holds of the numbers that all reads take
 module _ (test : ℤ → Bool) where
-  -- so many numbers of the tape are taken
+  -- at most so many numbers of the tape are taken
   record Took (k : ℕ) (tape rest : List ℤ) : Type 0 where
-    count : length rest + k ≡ length tape
+    count : length tape ≤ length rest + k
     back : SomeFails test rest → SomeFails test tape
 
   abbrev EndOk : ℕ → List ℤ → End → Type 0
@@ -103,6 +108,18 @@ module _ (test : ℤ → Bool) where
   fed_more : {A : Type 0} (j t : ℕ) (tape : List ℤ) (v : Value A) → j ≡ t → Fed j tape v → Fed t tape v
   fed_more j t tape v e h = subst (λ (k : ℕ). Fed k tape v) e h
 
+  end_most : (j t : ℕ) (tape : List ℤ) (x : End) → j ≤ t → EndOk j tape x → EndOk t tape x
+  end_most j t tape (Error p kind) e h = tt
+  end_most j t tape Clock e h = h
+  end_most j t tape Blocked e h = h
+  end_most j t tape Tape e h = omega (arith, e, h)
+  end_most j t tape Going e h = h
+
+  -- a bound may be greater
+  fed_most : {A : Type 0} (j t : ℕ) (tape : List ℤ) (v : Value A) → j ≤ t → Fed j tape v → Fed t tape v
+  fed_most j t tape (Gives a rest) e h = record { count = (let x = h.count in omega (arith, x, e)); back = h.back }
+  fed_most j t tape (Stops x) e h = end_most j t tape x e h
+
   given_ok : {A : Type 0} (p : Pos) (r : Either A Kind) (tape : List ℤ) → Fed 0 tape (given p r tape)
   given_ok p (Ok a) tape = none tape
   given_ok p (Err kind) tape = tt
@@ -153,6 +170,41 @@ module _ (test : ℤ → Bool) where
           fed_last (reads a) tape (eval w here st a tape) (λ x tape. given p (converted num x) tape) (eval_ok a tape h) (λ x rest. given_ok p (converted num x) rest)
       eval_ok (Chain' n (more_of-Expr a end_of-Expr) m ls) tape h =
           links_ok ls (reads a) tape (eval w here st a tape) (right_passes (takes w a) (links_take w ls) h) (eval_ok a tape (left_passes (takes w a) (links_take w ls) h))
+
+      eval_ok (And' n (more_of-Expr a end_of-Expr) m rest) tape h =
+          and_ok rest (reads a) tape (eval w here st a tape) (right_passes (takes w a) (all_of_take w rest) h) (eval_ok a tape (left_passes (takes w a) (all_of_take w rest) h))
+      eval_ok (Or' n (more_of-Expr a end_of-Expr) m rest) tape h =
+          or_ok rest (reads a) tape (eval w here st a tape) (right_passes (takes w a) (all_of_take w rest) h) (eval_ok a tape (left_passes (takes w a) (all_of_take w rest) h))
+      eval_ok (Choice' n (more_of-Expr a end_of-Expr) m (more_of-Expr b end_of-Expr) l (more_of-Expr c end_of-Expr) num) tape h =
+          let k = right_passes (takes w a) (λ z. takes w b z && takes w c z) h in
+          fed_then (reads a) (reads b + reads c) (reads a + (reads b + reads c)) tape (eval w here st a tape)
+          (λ x tape. then_value (if is_zero x then eval w here st c tape else eval w here st b tape) (λ y tape. Gives (as_num num y) tape)) refl
+          (eval_ok a tape (left_passes (takes w a) (λ z. takes w b z && takes w c z) h))
+          (λ x t. fed_last (reads b + reads c) t (if is_zero x then eval w here st c t else eval w here st b t) (λ y tape. Gives (as_num num y) tape)
+          (either_ok (is_zero x) (reads b + reads c) t (eval w here st c t) (eval w here st b t)
+          (fed_most (reads c) (reads b + reads c) t (eval w here st c t) (omega arith) (eval_ok c t (right_passes (takes w b) (takes w c) k)))
+          (fed_most (reads b) (reads b + reads c) t (eval w here st b t) (omega arith) (eval_ok b t (left_passes (takes w b) (takes w c) k))))
+          (λ y u. none u))
+
+      -- operands of `&&` and `||` after a value that took at most `j` numbers
+      and_ok : {n : _} (es : Row_of-Expr n) (j : ℕ) (tape : List ℤ) (v : Value ℤ) → Passes (all_of_take w es) → Fed j tape v → Fed (j + all_of_reads es) tape (and_value w here st es v)
+      and_ok end_of-Expr j tape v h f =
+          fed_then j 0 (j + 0) tape v (λ x tape. if is_zero x then Gives (pos 0) tape else Gives (pos 1) tape) refl f
+          (λ x t. either_ok (is_zero x) 0 t (Gives (pos 0) t) (Gives (pos 1) t) (none t) (none t))
+      and_ok (more_of-Expr b rest) j tape v h f =
+          fed_then j (reads b + all_of_reads rest) (j + (reads b + all_of_reads rest)) tape v (λ x tape. if is_zero x then Gives (pos 0) tape else and_value w here st rest (eval w here st b tape)) refl f
+          (λ x t. either_ok (is_zero x) (reads b + all_of_reads rest) t (Gives (pos 0) t) (and_value w here st rest (eval w here st b t)) (fed_most 0 (reads b + all_of_reads rest) t (Gives (pos 0) t) (omega arith) (none t))
+          (and_ok rest (reads b) t (eval w here st b t) (right_passes (takes w b) (all_of_take w rest) h) (eval_ok b t (left_passes (takes w b) (all_of_take w rest) h))))
+
+      or_ok : {n : _} (es : Row_of-Expr n) (j : ℕ) (tape : List ℤ) (v : Value ℤ) → Passes (all_of_take w es) → Fed j tape v → Fed (j + all_of_reads es) tape (or_value w here st es v)
+      or_ok end_of-Expr j tape v h f =
+          fed_then j 0 (j + 0) tape v (λ x tape. if is_zero x then Gives (pos 0) tape else Gives (pos 1) tape) refl f
+          (λ x t. either_ok (is_zero x) 0 t (Gives (pos 0) t) (Gives (pos 1) t) (none t) (none t))
+      or_ok (more_of-Expr b rest) j tape v h f =
+          fed_then j (reads b + all_of_reads rest) (j + (reads b + all_of_reads rest)) tape v (λ x tape. if is_zero x then or_value w here st rest (eval w here st b tape) else Gives (pos 1) tape) refl f
+          (λ x t. either_ok (is_zero x) (reads b + all_of_reads rest) t (or_value w here st rest (eval w here st b t)) (Gives (pos 1) t)
+          (or_ok rest (reads b) t (eval w here st b t) (right_passes (takes w b) (all_of_take w rest) h) (eval_ok b t (left_passes (takes w b) (all_of_take w rest) h)))
+          (fed_most 0 (reads b + all_of_reads rest) t (Gives (pos 1) t) (omega arith) (none t)))
 
       -- links after a value that took `j` numbers
       links_ok : {n : _} (ls : Row_of-Link n) (j : ℕ) (tape : List ℤ) (v : Value ℤ) → Passes (links_take w ls) → Fed j tape v → Fed (j + links_reads ls) tape (links_value w here st ls v)
@@ -250,21 +302,30 @@ module _ (test : ℤ → Bool) where
   straight_then j k t st (Breaks new) go e h l = absurd h
   straight_then j k t st (Over r) go e h l = record { visits = h.visits; end = end_more j k t st.tape r.end e h.end }
 
-  module _ (p : Program) (w : Setting) where
+  module _ (p : Program) (w : Setting) (bodies : Bodies) (act : Activation) where
     mutual
-      unfolding run stmt_reads stmt_takes HasNoLoop
+      unfolding run stmt_reads stmt_takes IsStraight
 
-      straight_ok : (s : Stmt) (path : List Pos) (st : State) → HasNoLoop s → Passes (stmt_takes p w s) → Straight (stmt_reads p s) st (run p w path s st)
-      straight_ok (Stmt.Simple s) path st n h = straight_value (simple_reads p s) st (simple_value p w (here_in path st) s st.store st.tape) (simple_ok p w (here_in path st) st.store s st.tape h)
-      straight_ok (Stmt.Block' k all) path st n h = all_straight all path st n h
-      straight_ok (Stmt.Clock' q k all) path st n h = absurd n
+      straight_ok : (s : Stmt) (st : State) → IsStraight s → Passes (stmt_takes p w s) → Straight (stmt_reads p s) st (run p w bodies act s st)
+      straight_ok (Stmt.Simple s) st n h = straight_value (simple_reads p s) st (simple_value p w (here_in act st) s st.store st.tape) (simple_ok p w (here_in act st) st.store s st.tape h)
+      straight_ok (Stmt.Static v) st n h = record { clock = refl; left = refl; visits = refl; tape = none st.tape }
+      straight_ok (Stmt.Block' k all) st n h = all_straight all st n h
+      straight_ok (Stmt.Call _ _ _ _) st n h = absurd n
+      straight_ok (Stmt.If' _ _ _ _ _ _) st n h = absurd n
+      straight_ok (Stmt.Switch' _ _ _ _ _) st n h = absurd n
+      straight_ok (Stmt.Loop' _ _ _ _ _ _) st n h = absurd n
+      straight_ok (Stmt.Known _) st n h = absurd n
+      straight_ok (Stmt.Assert _ _) st n h = absurd n
+      straight_ok Stmt.Wait st n h = absurd n
+      straight_ok Stmt.Break st n h = absurd n
+      straight_ok (Stmt.Return _ _ _) st n h = absurd n
 
-      all_straight : {k : _} (r : Row_of-Stmt k) (path : List Pos) (st : State) → HaveNoLoop r → Passes (all_take p w r) → Straight (all_reads p r) st (run_all p w path r st)
-      all_straight end_of-Stmt path st n h = record { clock = refl; left = refl; visits = refl; tape = none st.tape }
-      all_straight (more_of-Stmt s rest) path st n h =
-          straight_then (stmt_reads p s) (all_reads p rest) (stmt_reads p s + all_reads p rest) st (run p w path s st) (λ st. run_all p w path rest st) refl
-          (straight_ok s path st n.0 (left_passes (stmt_takes p w s) (all_take p w rest) h))
-          (λ new. all_straight rest path new n.1 (right_passes (stmt_takes p w s) (all_take p w rest) h))
+      all_straight : {k : _} (r : Row_of-Stmt k) (st : State) → AreStraight r → Passes (all_take p w r) → Straight (all_reads p r) st (run_all p w bodies act r st)
+      all_straight end_of-Stmt st n h = record { clock = refl; left = refl; visits = refl; tape = none st.tape }
+      all_straight (more_of-Stmt s rest) st n h =
+          straight_then (stmt_reads p s) (all_reads p rest) (stmt_reads p s + all_reads p rest) st (run p w bodies act s st) (λ st. run_all p w bodies act rest st) refl
+          (straight_ok s st n.0 (left_passes (stmt_takes p w s) (all_take p w rest) h))
+          (λ new. all_straight rest new n.1 (right_passes (stmt_takes p w s) (all_take p w rest) h))
 
 -- ---- turns of the clock loop
 turns_append : (q : Pos) (k c : ℕ) (vs : List Visit) (v : Visit) → AreTurns q k vs → k + length vs ≡ c → v.loop ≡ record { path = []; place = q } → v.clock ≡ pos c → AreTurns q k (vs ++ v ∷ [])
@@ -288,7 +349,7 @@ first_part a n = let x : suc 0 ≤ n + 1 = omega arith in let y = mul-le-mul_lef
 
 -- an execution on this tape, up to n visits, of a program whose main takes `all` numbers of the tape in its statements
 -- before the loop and one turn
-module _ (p : Program) (w : Setting) (q : Pos) (last : ℕ) (limit : w.max_clock ≡ pos last) (tape : List ℤ) (n : ℕ) where
+module _ (p : Program) (w : Setting) (bodies : Bodies) (act : Activation) (main : act.path ≡ []) (q : Pos) (last : ℕ) (limit : w.max_clock ≡ pos last) (tape : List ℤ) (n : ℕ) where
   abbrev test : ℤ → Bool
   test = stmt_takes p w (main_of p)
 
@@ -322,16 +383,109 @@ module _ (p : Program) (w : Setting) (q : Pos) (last : ℕ) (limit : w.max_clock
     room : length tape ≤ length st.tape + taken
     back : SomeFails test st.tape → SomeFails test tape
 
-  end_cause : (k c m : ℕ) (rest : List ℤ) (x : End) → k ≤ all → c + 1 ≤ n → length tape ≤ length rest + all * (c + 1) → (SomeFails test rest → SomeFails test tape) → EndOk test k rest x → Causes p w last tape n m x
-  end_cause k c m rest (Error a kind) h l s back e = tt
-  end_cause k c m rest Clock h l s back e = absurd e
-  end_cause k c m rest Blocked h l s back e = back e
-  end_cause k c m rest Tape h l s back e = let x = room_less all c n l in omega (arith, x, s, e, h)
-  end_cause k c m rest Going h l s back e = absurd e
+  end_cause : (k j c m : ℕ) (rest : List ℤ) (x : End) → j + k ≤ all → c + 1 ≤ n → length tape ≤ length rest + (all * (c + 1) + j) → (SomeFails test rest → SomeFails test tape) → EndOk test k rest x → Causes p w last tape n m x
+  end_cause k j c m rest (Error a kind) h l s back e = tt
+  end_cause k j c m rest Clock h l s back e = absurd e
+  end_cause k j c m rest Blocked h l s back e = back e
+  end_cause k j c m rest Tape h l s back e = let x = room_less all c n l in omega (arith, x, s, e, h)
+  end_cause k j c m rest Going h l s back e = absurd e
 
-  module _ (loop : Loop) (is : loop ≡ record { path = []; place = q }) {k : _} (row : Row_of-Stmt k) (straight : HaveNoLoop row) (passes : Passes test (all_take p w row)) (few : all_reads p row ≤ all) where
+  -- after a turn: before the next one, or the run is over
+  abbrev Done : ℕ → ℕ → Result → Type 0
+  Done c tries (Goes st) = AtTurn (c + 1) tries st
+  Done c tries (Breaks st) = ⊥
+  Done c tries (Over r) = Lasts p w q last tape n r
+
+  -- the wait after a turn
+  wait_ok : (c tries : ℕ) (new : State) → InTurn c tries (all * (c + 1) + all) new → Done c tries (wait w.max_clock new)
+  wait_ok c tries new h =
+      elim (int_le w.max_clock new.clock) as (λ b. int_le w.max_clock new.clock ≡ b →
+      Done c tries (if b then Over (record { visits = new.visits; end = Clock }) else Goes (record new { clock = new.clock +ℤ pos 1 }))) [
+        | true ↦ λ t.
+            let x = h.made in let y = h.total in let z = h.clocks in let u = at_last w.max_clock new.clock last c limit h.clock t in
+            record { turns = h.turns; within = omega (arith, x, y); clocks = omega (arith, x, z); cause = omega (arith, x, z, u) }
+        | false ↦ λ f.
+            let y = h.total in let r = h.room in let m = mul-suc all (c + 1) in
+            record {
+              turns = h.turns;
+              made = h.made;
+              clock = ap (λ (z : ℤ). z +ℤ pos 1) h.clock;
+              left = h.left;
+              clocks = before_last w.max_clock new.clock last c limit h.clock f;
+              total = h.total;
+              room = omega (arith, r, m);
+              back = h.back;
+            }
+      ] refl
+
+  in_more : (c tries j k t : ℕ) (st new : State) → j + k ≡ t → InTurn c tries (all * (c + 1) + j) st → Moved test k st new → InTurn c tries (all * (c + 1) + t) new
+  in_more c tries j k t st new e h s =
+      let r = h.room in let x = s.tape.count in
+      record {
+        turns = subst (AreTurns q 0) (sym s.visits) h.turns;
+        made = ap length s.visits ∙ h.made;
+        clock = s.clock ∙ h.clock;
+        left = s.left ∙ h.left;
+        clocks = h.clocks;
+        total = h.total;
+        room = omega (arith, r, x, e);
+        back = λ x. h.back (s.tape.back x);
+      }
+
+  in_over : (c tries j k : ℕ) (st : State) (r : Run) → j + k ≤ all → InTurn c tries (all * (c + 1) + j) st → Stopped test k st r → Lasts p w q last tape n r
+  in_over c tries j k st r few h s =
+      let m : length r.visits ≡ c + 1 = ap length s.visits ∙ h.made in
+      let x = h.total in let y = h.clocks in
+      record {
+        turns = subst (AreTurns q 0) (sym s.visits) h.turns;
+        within = omega (arith, m, x);
+        clocks = omega (arith, m, y);
+        cause = end_cause k j c (length r.visits) st.tape r.end few (omega (arith, x)) h.room h.back s.end;
+      }
+
+  done_then : (c tries j k t : ℕ) (st : State) (x : Result) (go : State → Result) → j + k ≡ t → t ≤ all → InTurn c tries (all * (c + 1) + j) st → Straight test k st x →
+      ((new : State) → InTurn c tries (all * (c + 1) + t) new → Done c tries (go new)) → Done c tries (then_state x go)
+  done_then c tries j k t st (Goes new) go e few h s l = l new (in_more c tries j k t st new e h s)
+  done_then c tries j k t st (Breaks new) go e few h s l = absurd s
+  done_then c tries j k t st (Over r) go e few h s l = in_over c tries j k st r (omega (arith, e, few)) h s
+
+  in_most : (c tries j t : ℕ) (st : State) → j ≤ t → InTurn c tries (all * (c + 1) + j) st → InTurn c tries (all * (c + 1) + t) st
+  in_most c tries j t st e h = record {
+    turns = h.turns;
+    made = h.made;
+    clock = h.clock;
+    left = h.left;
+    clocks = h.clocks;
+    total = h.total;
+    room = (let r = h.room in omega (arith, r, e));
+    back = h.back;
+  }
+
+  at_wait : (c tries : ℕ) {k : _} (rest : Row_of-Stmt k) (s : Stmt) (st : State) → s ≡ stmt.Wait → IsEnd rest → InTurn c tries (all * (c + 1) + all) st → Done c tries (run_all p w bodies act (more_of-Stmt s rest) st)
+  unfolding run
+  at_wait c tries (more_of-Stmt s rest) s' st e f h = absurd f
+  at_wait c tries end_of-Stmt s st e f h =
+      subst (λ (s : Stmt). Done c tries (then_state (run p w bodies act s st) (λ st. Goes st))) (sym e) (ended_done (wait w.max_clock st) (wait_ok c tries st h))
+    where
+      ended_done : (x : Result) → Done c tries x → Done c tries (then_state x (λ st. Goes st))
+      ended_done (Goes st) d = d
+      ended_done (Breaks st) d = absurd d
+      ended_done (Over r) d = d
+
+  -- the statements of a turn, where at most so many numbers were taken in it
+  turn_ok : (c tries : ℕ) {k : _} (row : Row_of-Stmt k) (used : ℕ) (st : State) → WaitLast row → Passes test (all_take p w row) → used + all_reads p row ≤ all → InTurn c tries (all * (c + 1) + used) st →
+      Done c tries (run_all p w bodies act row st)
+  unfolding run WaitLast stmt_reads stmt_takes
+  turn_ok c tries end_of-Stmt used st e h few b = absurd e
+  turn_ok c tries (more_of-Stmt s rest) used st (inl e) h few b = at_wait c tries rest s st e.0 e.1 (in_most c tries used all st (omega (arith, few)) b)
+  turn_ok c tries (more_of-Stmt s rest) used st (inr e) h few b =
+      done_then c tries used (stmt_reads p s) (used + stmt_reads p s) st (run p w bodies act s st) (λ st. run_all p w bodies act rest st) refl (omega (arith, few)) b
+      (straight_ok test p w bodies act s st e.0 (left_passes test (stmt_takes p w s) (all_take p w rest) h))
+      (λ new i. turn_ok c tries rest (used + stmt_reads p s) new e.1 (right_passes test (stmt_takes p w s) (all_take p w rest) h) (omega (arith, few)) i)
+
+  module _ (loop : Loop) (is : loop ≡ record { path = []; place = q }) {k : _} (row : Row_of-Stmt k) (waits : WaitLast row) (passes : Passes test (all_take p w row)) (few : all_reads p row ≤ all) where
     abbrev one_turn : State → Turn
-    one_turn st = clock_turn w.max_clock (run_all p w [] row st)
+    one_turn st = after_body (run_all p w bodies act row st) (λ st. Again st)
 
     visit_ok : (left c tries : ℕ) (st : State) (go : State → Result) → left ≡ suc tries → AtTurn c (suc tries) st → ((new : State) → InTurn c tries (all * (c + 1)) new → Ends (go new)) → Ends (visit_with left loop st go)
     visit_ok zero c tries st go e h l = absurd (omega (arith, e))
@@ -348,52 +502,22 @@ module _ (p : Program) (w : Setting) (q : Pos) (last : ℕ) (limit : w.max_clock
           back = h.back;
         })
 
-    -- the wait after a turn
-    wait_ok : (c tries : ℕ) (new : State) (go : State → Result) → InTurn c tries (all * (c + 1) + all) new → ((st : State) → AtTurn (c + 1) tries st → Ends (go st)) → Ends (then_again (wait w.max_clock new) go)
-    wait_ok c tries new go h l =
-        elim (int_le w.max_clock new.clock) as (λ b. int_le w.max_clock new.clock ≡ b →
-        Ends (then_again (if b then Ended (record { visits = new.visits; end = Clock }) else Again (record new { clock = new.clock +ℤ pos 1 })) go)) [
-          | true ↦ λ t.
-              let x = h.made in let y = h.total in let z = h.clocks in let u = at_last w.max_clock new.clock last c limit h.clock t in
-              record { turns = h.turns; within = omega (arith, x, y); clocks = omega (arith, x, z); cause = omega (arith, x, z, u) }
-          | false ↦ λ f.
-              let y = h.total in let r = h.room in let m = mul-suc all (c + 1) in
-              l (record new { clock = new.clock +ℤ pos 1 }) (record {
-                turns = h.turns;
-                made = h.made;
-                clock = ap (λ (z : ℤ). z +ℤ pos 1) h.clock;
-                left = h.left;
-                clocks = before_last w.max_clock new.clock last c limit h.clock f;
-                total = h.total;
-                room = omega (arith, r, m);
-                back = h.back;
-              })
-        ] refl
+    in_start : (c tries : ℕ) (st : State) → InTurn c tries (all * (c + 1)) st → InTurn c tries (all * (c + 1) + 0) st
+    in_start c tries st h = record {
+      turns = h.turns;
+      made = h.made;
+      clock = h.clock;
+      left = h.left;
+      clocks = h.clocks;
+      total = h.total;
+      room = (let r = h.room in omega (arith, r));
+      back = h.back;
+    }
 
-    turn_ok : (c tries : ℕ) (st : State) (x : Result) (go : State → Result) → InTurn c tries (all * (c + 1)) st → Straight test (all_reads p row) st x → ((new : State) → AtTurn (c + 1) tries new → Ends (go new)) →
-        Ends (then_again (clock_turn w.max_clock x) go)
-    turn_ok c tries st (Goes new) go h s l =
-        let r = h.room in let t = s.tape.count in
-        wait_ok c tries new go (record {
-          turns = subst (AreTurns q 0) (sym s.visits) h.turns;
-          made = ap length s.visits ∙ h.made;
-          clock = s.clock ∙ h.clock;
-          left = s.left ∙ h.left;
-          clocks = h.clocks;
-          total = h.total;
-          room = omega (arith, r, t, few);
-          back = λ x. h.back (s.tape.back x);
-        }) l
-    turn_ok c tries st (Breaks new) go h s l = absurd s
-    turn_ok c tries st (Over r) go h s l =
-        let m : length r.visits ≡ c + 1 = ap length s.visits ∙ h.made in
-        let x = h.total in let y = h.clocks in
-        record {
-          turns = subst (AreTurns q 0) (sym s.visits) h.turns;
-          within = omega (arith, m, x);
-          clocks = omega (arith, m, y);
-          cause = end_cause (all_reads p row) c (length r.visits) st.tape r.end few (omega (arith, x)) h.room h.back s.end;
-        }
+    again_ok : (c tries : ℕ) (x : Result) (go : State → Result) → Done c tries x → ((st : State) → AtTurn (c + 1) tries st → Ends (go st)) → Ends (then_again (after_body x (λ st. Again st)) go)
+    again_ok c tries (Goes st) go h l = l st h
+    again_ok c tries (Breaks st) go h l = absurd h
+    again_ok c tries (Over r) go h l = h
 
     turns_ok : (tries c : ℕ) (st : State) → AtTurn c tries st → Ends (turns loop one_turn tries st)
     unfolding turns
@@ -405,7 +529,7 @@ module _ (p : Program) (w : Setting) (q : Pos) (last : ℕ) (limit : w.max_clock
     }
     turns_ok (suc tries) c st h =
         visit_ok st.left c tries st (λ st. then_again (one_turn st) (λ st. turns loop one_turn tries st)) h.left h
-        (λ new i. turn_ok c tries new (run_all p w [] row new) (λ st. turns loop one_turn tries st) i (all_straight test p w row [] new straight passes) (λ st j. turns_ok tries (c + 1) st j))
+        (λ new i. again_ok c tries (run_all p w bodies act row new) (λ st. turns loop one_turn tries st) (turn_ok c tries row 0 new waits passes (omega (arith, few)) (in_start c tries new i)) (λ st j. turns_ok tries (c + 1) st j))
 
   -- ---- down to the clock loop
   -- before it, where so many numbers were taken and at most `left` follow up to the end of its first turn
@@ -446,11 +570,11 @@ module _ (p : Program) (w : Setting) (q : Pos) (last : ℕ) (limit : w.max_clock
   before_then used k t st (Breaks new) go e u b s l = absurd s
   before_then used k t st (Over r) go e u b s l = over_before used k st r b (omega (arith, e, u)) s
 
-  clock_ok : (r : Pos) {k : _} (row : Row_of-Stmt k) (used : ℕ) (st : State) → r ≡ q → HaveNoLoop row → Passes test (all_take p w row) → used + all_reads p row ≤ all → IsBefore used st →
-      Ends (turns (record { path = []; place = r }) (λ st. clock_turn w.max_clock (run_all p w [] row st)) st.left st)
-  clock_ok r row used st e straight passes few b =
+  clock_ok : (r : Pos) {k : _} (row : Row_of-Stmt k) (used : ℕ) (st : State) → r ≡ q → WaitLast row → Passes test (all_take p w row) → used + all_reads p row ≤ all → IsBefore used st →
+      Ends (turns (record { path = act.path; place = r }) (λ st. after_body (run_all p w bodies act row st) (λ st. Again st)) st.left st)
+  clock_ok r row used st e waits passes few b =
       let a = b.left in let c = b.room.count in let u = mul-suc all 0 in let z = mul-zero all in
-      turns_ok (record { path = []; place = r }) (ap (λ (x : Pos). record { path = []; place = x }) e) row straight passes (omega (arith, few)) st.left 0 st (record {
+      turns_ok (record { path = act.path; place = r }) (ap (λ (path : List Pos). record { path = path; place = r }) main ∙ ap (λ (x : Pos). record { path = []; place = x }) e) row waits passes (omega (arith, few)) st.left 0 st (record {
         turns = subst (AreTurns q 0) (sym b.visits) tt;
         made = ap length b.visits;
         clock = b.clock;
@@ -461,21 +585,36 @@ module _ (p : Program) (w : Setting) (q : Pos) (last : ℕ) (limit : w.max_clock
         back = b.room.back;
       })
 
+  loop_ok : (r : Pos) (form : LoopKind) (cond : Option Expr) (body : Stmt) (step : Option Simple) (used : ℕ) (st : State) → r ≡ q → IsTurn form cond body step → Passes test (stmt_takes p w body) → used + stmt_reads p body ≤ all → IsBefore used st →
+      Ends (turns (record { path = act.path; place = r }) (turn_of p w act form cond (λ st. run p w bodies act body st) step) st.left st)
+  unfolding run stmt_reads stmt_takes
+  loop_ok r kind.Clock None (Stmt.Block' k row) None used st e t h few b = clock_ok r row used st e t h few b
+  loop_ok r _ _ _ _ used st e t h few b = absurd t
+
   mutual
     unfolding run stmt_reads stmt_takes EndsInClock
 
-    main_ok : (s : Stmt) (used : ℕ) (st : State) → EndsInClock q s → Passes test (stmt_takes p w s) → used + stmt_reads p s ≤ all → IsBefore used st → Ends (run p w [] s st)
-    main_ok (Stmt.Simple s) used st e h few b = absurd e
+    main_ok : (s : Stmt) (used : ℕ) (st : State) → EndsInClock q s → Passes test (stmt_takes p w s) → used + stmt_reads p s ≤ all → IsBefore used st → Ends (run p w bodies act s st)
     main_ok (Stmt.Block' k row) used st e h few b = all_main row used st e h few b
-    main_ok (Stmt.Clock' r k row) used st e h few b = clock_ok r row used st e.0 e.1 h few b
+    main_ok (Stmt.Loop' r form cond k (more_of-Stmt body end_of-Stmt) step) used st e h few b = loop_ok r form cond body step used st e.0 e.1 h few b
+    main_ok (Stmt.Simple _) used st e h few b = absurd e
+    main_ok (Stmt.Static _) used st e h few b = absurd e
+    main_ok (Stmt.Call _ _ _ _) used st e h few b = absurd e
+    main_ok (Stmt.If' _ _ _ _ _ _) used st e h few b = absurd e
+    main_ok (Stmt.Switch' _ _ _ _ _) used st e h few b = absurd e
+    main_ok (Stmt.Known _) used st e h few b = absurd e
+    main_ok (Stmt.Assert _ _) used st e h few b = absurd e
+    main_ok Stmt.Wait used st e h few b = absurd e
+    main_ok Stmt.Break used st e h few b = absurd e
+    main_ok (Stmt.Return _ _ _) used st e h few b = absurd e
 
-    all_main : {k : _} (r : Row_of-Stmt k) (used : ℕ) (st : State) → EndInClock q r → Passes test (all_take p w r) → used + all_reads p r ≤ all → IsBefore used st → Ends (run_all p w [] r st)
+    all_main : {k : _} (r : Row_of-Stmt k) (used : ℕ) (st : State) → EndInClock q r → Passes test (all_take p w r) → used + all_reads p r ≤ all → IsBefore used st → Ends (run_all p w bodies act r st)
     all_main end_of-Stmt used st e h few b = absurd e
     all_main (more_of-Stmt s rest) used st (inl e) h few b =
-        ends_then (run p w [] s st) (λ st. run_all p w [] rest st) (main_ok s used st e.0 (left_passes test (stmt_takes p w s) (all_take p w rest) h) (omega (arith, few)) b)
+        ends_then (run p w bodies act s st) (λ st. run_all p w bodies act rest st) (main_ok s used st e.0 (left_passes test (stmt_takes p w s) (all_take p w rest) h) (omega (arith, few)) b)
     all_main (more_of-Stmt s rest) used st (inr e) h few b =
-        before_then used (stmt_reads p s) (used + stmt_reads p s) st (run p w [] s st) (λ st. run_all p w [] rest st) refl (omega (arith, few)) b
-        (straight_ok test p w s [] st e.0 (left_passes test (stmt_takes p w s) (all_take p w rest) h))
+        before_then used (stmt_reads p s) (used + stmt_reads p s) st (run p w bodies act s st) (λ st. run_all p w bodies act rest st) refl (omega (arith, few)) b
+        (straight_ok test p w bodies act s st e.0 (left_passes test (stmt_takes p w s) (all_take p w rest) h))
         (λ new c. all_main rest (used + stmt_reads p s) new e.1 (right_passes test (stmt_takes p w s) (all_take p w rest) h) (omega (arith, few)) c)
 
   -- ---- the execution
@@ -496,18 +635,21 @@ module _ (p : Program) (w : Setting) (q : Pos) (last : ℕ) (limit : w.max_clock
   visits_of (Breaks st) h = absurd h
   visits_of (Over r) h = (tt, h)
 
-  has_visits : EndsInClock q (main_of p) → HasVisits p w q last tape n
-  unfolding execution
-  has_visits e =
-      let h = visits_of (run p w [] (main_of p) (start p tape n))
-      (main_ok (main_of p) 0 (start p tape n) e (λ z t. t) (omega arith) (record { visits = refl; clock = refl; left = refl; room = none test tape })) in
-      let lasts = h.1 in
-      record { over = h.0; lasts = lasts; full = λ f room ok. full_of (execution p w tape n).end (length (execution p w tape n).visits) lasts.within lasts.clocks lasts.cause f room ok }
-
 pub goes-on : GoesOn
-goes-on p w q last e limit tape n = has_visits p w q last limit tape n e
+unfolding execution
+goes-on p w q last e limit tape n =
+    let bodies = bodies_of p w (length p.funcs) in
+    let act = main_activation p in
+    let h = visits_of p w bodies act refl q last limit tape n (run p w bodies act (main_of p) (start p tape n))
+    (main_ok p w bodies act refl q last limit tape n (main_of p) 0 (start p tape n) e (λ z t. t) (omega arith) (record { visits = refl; clock = refl; left = refl; room = none (test p w bodies act refl q last limit tape n) tape })) in
+    let lasts = h.1 in
+    record {
+      over = h.0;
+      lasts = lasts;
+      full = λ f room ok. full_of p w bodies act refl q last limit tape n (execution p w tape n).end (length (execution p w tape n).visits) lasts.within lasts.clocks lasts.cause f room ok;
+    }
 
--- ---- no statement breaks
+-- ---- no break gets out
 unbroken_value : {A : Type 0} (st : State) (v : Value A) (go : A → State → Result) → ((a : A) (new : State) → IsUnbroken (go a new)) → IsUnbroken (with_value st v go)
 unbroken_value st (Gives a tape) go h = h a (record st { tape = tape })
 unbroken_value st (Stops x) go h = tt
@@ -516,6 +658,10 @@ unbroken_then : (x : Result) (go : State → Result) → IsUnbroken x → ((st :
 unbroken_then (Goes st) go h l = l st
 unbroken_then (Breaks st) go h l = absurd h
 unbroken_then (Over r) go h l = tt
+
+unbroken_if : (b : Bool) (x y : Result) → IsUnbroken x → IsUnbroken y → IsUnbroken (if b then x else y)
+unbroken_if true x y h l = h
+unbroken_if false x y h l = l
 
 unbroken_again : (t : Turn) (go : State → Result) → ((st : State) → IsUnbroken (go st)) → IsUnbroken (then_again t go)
 unbroken_again (Again st) go l = l st
@@ -532,16 +678,53 @@ unbroken_turns loop turn zero st = tt
 unbroken_turns loop turn (suc tries) st =
     unbroken_visit st.left loop st (λ st. then_again (turn st) (λ st. turns loop turn tries st)) (λ st. unbroken_again (turn st) (λ st. turns loop turn tries st) (λ st. unbroken_turns loop turn tries st))
 
-mutual
-  unfolding run
+-- where no break gets out of a call
+module _ (p : Program) (w : Setting) (bodies : Bodies) (calls : (f : ℕ) (act : Activation) (st : State) → IsUnbroken (bodies f act st)) (act : Activation) where
+  mutual
+    unfolding run IsClosed
 
-  pub unbroken : (p : Program) (w : Setting) (path : List Pos) (s : Stmt) (st : State) → IsUnbroken (run p w path s st)
-  unbroken p w path (Stmt.Simple s) st =
-      unbroken_value st (simple_value p w (here_in path st) s st.store st.tape) (λ store st. Goes (with_store st store)) (λ store new. tt)
-  unbroken p w path (Stmt.Block' k all) st = all_unbroken p w path all st
-  unbroken p w path (Stmt.Clock' q k all) st = unbroken_turns (record { path = path; place = q }) (λ st. clock_turn w.max_clock (run_all p w path all st)) st.left st
+    unbroken : (s : Stmt) → IsClosed s → (st : State) → IsUnbroken (run p w bodies act s st)
+    unbroken (Stmt.Simple s) c st = unbroken_value st (simple_value p w (here_in act st) s st.store st.tape) (λ store st. Goes (with_store st store)) (λ store new. tt)
+    unbroken (Stmt.Static v) c st = tt
+    unbroken (Stmt.Block' k all) c st = all_unbroken all c st
+    unbroken (Stmt.Call q f args dest) c st =
+        unbroken_value st (entered p w act q f args st)
+        (λ b st. then_state (bodies f (record { path = act.path ++ q ∷ []; base = b.base }) (with_store st b.store)) (λ st. delivered w act dest st))
+        (λ b st. unbroken_then (bodies f (record { path = act.path ++ q ∷ []; base = b.base }) (with_store st b.store)) (λ st. delivered w act dest st) (calls f _ _) (λ st. unbroken_delivered dest st))
+      where
+        unbroken_delivered : (dest : Option Destination) (st : State) → IsUnbroken (delivered w act dest st)
+        unbroken_delivered None st = tt
+        unbroken_delivered (Some d) st = unbroken_value st _ (λ store st. Goes (with_store st store)) (λ store new. tt)
+    unbroken (Stmt.If' e n (more_of-Stmt a end_of-Stmt) m (more_of-Stmt b end_of-Stmt) marked) c st =
+        unbroken_value st (eval w (here_in act st) st.store e st.tape) (λ z st. if is_zero z then run p w bodies act b st else run p w bodies act a st)
+        (λ z st. unbroken_if (is_zero z) (run p w bodies act b st) (run p w bodies act a st) (unbroken b c.1 st) (unbroken a c.0 st))
+    unbroken (Stmt.Switch' e num n groups marked) c st =
+        unbroken_value st (eval w (here_in act st) st.store e st.tape) (λ z st. run_group p w bodies act (chosen (is_listed z groups) z) groups st)
+        (λ z st. group_unbroken (chosen (is_listed z groups) z) groups c st)
+    unbroken (Stmt.Loop' q kind cond n (more_of-Stmt body end_of-Stmt) step) c st =
+        unbroken_turns (record { path = act.path; place = q }) (turn_of p w act kind cond (λ st. run p w bodies act body st) step) st.left st
+    unbroken (Stmt.Known e) c st =
+        unbroken_value st (eval w (here_in act st) st.store e st.tape) (λ z st. if is_zero z then Over (record { visits = st.visits; end = Blocked }) else Goes st) (λ z st. unbroken_if (is_zero z) (Over _) (Goes st) tt tt)
+    unbroken (Stmt.Assert q e) c st =
+        unbroken_value st (eval w (here_in act st) st.store e st.tape) (λ z st. if is_zero z then Over (record { visits = st.visits; end = Error q Kind.Assert }) else Goes st) (λ z st. unbroken_if (is_zero z) (Over _) (Goes st) tt tt)
+    unbroken Stmt.Wait c st = unbroken_if (int_le w.max_clock st.clock) (Over (record { visits = st.visits; end = Clock })) (Goes (record st { clock = st.clock +ℤ pos 1 })) tt tt
+    unbroken Stmt.Break c st = absurd c
+    unbroken (Stmt.Return q num e) c st = unbroken_value st (converted_value w (here_in act st) st.store num q e st.tape) (λ z st. Goes (record st { result = z })) (λ z st. tt)
 
-  pub all_unbroken : {k : _} (p : Program) (w : Setting) (path : List Pos) (r : Row_of-Stmt k) (st : State) → IsUnbroken (run_all p w path r st)
-  all_unbroken p w path end_of-Stmt st = tt
-  all_unbroken p w path (more_of-Stmt s rest) st =
-      unbroken_then (run p w path s st) (λ st. run_all p w path rest st) (unbroken p w path s st) (λ st. all_unbroken p w path rest st)
+    all_unbroken : {k : _} (r : Row_of-Stmt k) → AreClosed r → (st : State) → IsUnbroken (run_all p w bodies act r st)
+    all_unbroken end_of-Stmt c st = tt
+    all_unbroken (more_of-Stmt s rest) c st =
+        unbroken_then (run p w bodies act s st) (λ st. run_all p w bodies act rest st) (unbroken s c.0 st) (λ st. all_unbroken rest c.1 st)
+
+    group_unbroken : {k : _} (fits : List Label → Bool) (groups : Row_of-Group k) → HaveClosed groups → (st : State) → IsUnbroken (run_group p w bodies act fits groups st)
+    group_unbroken fits end_of-Group c st = tt
+    group_unbroken fits (more_of-Group labels n (more_of-Stmt body end_of-Stmt) rest) c st =
+        unbroken_if (fits labels) (run p w bodies act body st) (run_group p w bodies act fits rest st) (unbroken body c.0 st) (group_unbroken fits rest c.1 st)
+
+bodies_unbroken : (p : Program) (w : Setting) → ((f : ℕ) → IsClosed (block_of (slice_get p.funcs f))) → (depth f : ℕ) (act : Activation) (st : State) → IsUnbroken (bodies_of p w depth f act st)
+unfolding bodies_of
+bodies_unbroken p w closed zero f act st = tt
+bodies_unbroken p w closed (suc depth) f act st = unbroken p w (bodies_of p w depth) (bodies_unbroken p w closed depth) act (block_of (slice_get p.funcs f)) (closed f) st
+
+pub never-breaks : NeverBreaks
+never-breaks p w closed depth act s c st = unbroken p w (bodies_of p w depth) (bodies_unbroken p w closed depth) act s c st

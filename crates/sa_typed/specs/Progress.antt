@@ -21,6 +21,7 @@ use Rattle.sa_typed.specs.declared.stmt.Simple.TheVariants.{Declare, Assign, Com
 use Rattle.sa_typed.specs.declared.stmt.LoopKind.{LoopKind}
 use Rattle.sa_typed.specs.declared.stmt.LoopKind.TheVariants as kind
 use Rattle.sa_typed.specs.declared.stmt.Stmt.{Stmt, Row_of-Stmt, end_of-Stmt, more_of-Stmt, Row_of-Group, end_of-Group, more_of-Group}
+use Rattle.sa_typed.specs.declared.stmt.Stmt.TheVariants as stmt
 use Rattle.sa_typed.specs.declared.program.Program.{Program}
 
 -- ---- the clock loop last
@@ -40,14 +41,10 @@ abbrev pub IsEnd : {n : _} → Row_of-Stmt n → Type 0
 IsEnd end_of-Stmt = Unit {0}
 IsEnd (more_of-Stmt s rest) = ⊥
 
-abbrev pub IsWait : Stmt → Type 0
-IsWait Stmt.Wait = Unit {0}
-IsWait _ = ⊥
-
 -- straight statements, and the wait as the last one
 unfoldable pub WaitLast : {n : _} → Row_of-Stmt n → Type 0
 WaitLast end_of-Stmt = ⊥
-WaitLast (more_of-Stmt s rest) = (IsWait s × IsEnd rest) ⊎ (IsStraight s × WaitLast rest)
+WaitLast (more_of-Stmt s rest) = ((s ≡ stmt.Wait) × IsEnd rest) ⊎ (IsStraight s × WaitLast rest)
 
 abbrev pub IsTurn : LoopKind → Option Expr → Stmt → Option Simple → Type 0
 IsTurn kind.Clock None (Stmt.Block' n all) None = WaitLast all

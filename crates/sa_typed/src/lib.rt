@@ -9,6 +9,7 @@
 mod arithmetic;
 mod constants;
 mod expr;
+mod laws;
 mod program;
 mod shape;
 mod stmt;
@@ -18,6 +19,7 @@ pub use arithmetic::{
 };
 pub use constants::{fixed_index, is_constant};
 pub use expr::{Access, Expr, Link, Operator, Prefix, Step};
+pub use laws::{goes_on, never_breaks};
 pub use program::{Func, Home, Input, Param, Place, Program, Var};
 pub use shape::{FieldDef, Part, Plain, Shape, StructDef};
 pub use stmt::{Arg, Destination, Group, Label, LoopKind, Simple, Start, Stmt};

@@ -1,0 +1,14 @@
+//! Laws of executions.
+
+ghost use Rattle.sa_typed.specs.Progress.{GoesOn, NeverBreaks};
+
+/// An execution has fewer visits than asked for only where an evaluation errs, the last clock is reached, a number of the
+/// tape is in no range, or the tape is short.
+pub fn goes_on()
+    ensures { GoesOn }
+{}
+
+/// Where each break stands in a loop, in all functions, no break gets out of a statement.
+pub fn never_breaks()
+    ensures { NeverBreaks }
+{}
