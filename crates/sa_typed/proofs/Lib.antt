@@ -1,5 +1,6 @@
 pub mod ArithmeticLaws
 mod EvaluationSamples
+mod CallSamples
 mod ExecutionSamples
 pub mod LinkLaws
 pub mod OperandLaws

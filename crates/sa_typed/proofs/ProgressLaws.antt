@@ -308,7 +308,7 @@ module _ (test : ℤ → Bool) where
 
       straight_ok : (s : Stmt) (st : State) → IsStraight s → Passes (stmt_takes p w s) → Straight (stmt_reads p s) st (run p w bodies act s st)
       straight_ok (Stmt.Simple s) st n h = straight_value (simple_reads p s) st (simple_value p w (here_in act st) s st.store st.tape) (simple_ok p w (here_in act st) st.store s st.tape h)
-      straight_ok (Stmt.Static v) st n h = record { clock = refl; left = refl; visits = refl; tape = none st.tape }
+      straight_ok (Stmt.Scope v) st n h = record { clock = refl; left = refl; visits = refl; tape = none st.tape }
       straight_ok (Stmt.Block' k all) st n h = all_straight all st n h
       straight_ok (Stmt.Call _ _ _ _) st n h = absurd n
       straight_ok (Stmt.If' _ _ _ _ _ _) st n h = absurd n
@@ -598,7 +598,7 @@ module _ (p : Program) (w : Setting) (bodies : Bodies) (act : Activation) (main 
     main_ok (Stmt.Block' k row) used st e h few b = all_main row used st e h few b
     main_ok (Stmt.Loop' r form cond k (more_of-Stmt body end_of-Stmt) step) used st e h few b = loop_ok r form cond body step used st e.0 e.1 h few b
     main_ok (Stmt.Simple _) used st e h few b = absurd e
-    main_ok (Stmt.Static _) used st e h few b = absurd e
+    main_ok (Stmt.Scope _) used st e h few b = absurd e
     main_ok (Stmt.Call _ _ _ _) used st e h few b = absurd e
     main_ok (Stmt.If' _ _ _ _ _ _) used st e h few b = absurd e
     main_ok (Stmt.Switch' _ _ _ _ _) used st e h few b = absurd e
@@ -685,7 +685,7 @@ module _ (p : Program) (w : Setting) (bodies : Bodies) (calls : (f : ℕ) (act :
 
     unbroken : (s : Stmt) → IsClosed s → (st : State) → IsUnbroken (run p w bodies act s st)
     unbroken (Stmt.Simple s) c st = unbroken_value st (simple_value p w (here_in act st) s st.store st.tape) (λ store st. Goes (with_store st store)) (λ store new. tt)
-    unbroken (Stmt.Static v) c st = tt
+    unbroken (Stmt.Scope v) c st = tt
     unbroken (Stmt.Block' k all) c st = all_unbroken all c st
     unbroken (Stmt.Call q f args dest) c st =
         unbroken_value st (entered p w act q f args st)

@@ -315,7 +315,7 @@ wait max_clock st = if int_le max_clock st.clock then over st Clock else Goes (r
 unfoldable mutual
   pub run : Program → Setting → Bodies → Activation → Stmt → State → Result
   run p w bodies act (Stmt.Simple s) st = with_value st (simple_value p w (here_in act st) s st.store st.tape) (λ store st. Goes (with_store st store))
-  run p w bodies act (Stmt.Static v) st = Goes st
+  run p w bodies act (Stmt.Scope v) st = Goes st
   run p w bodies act (Stmt.Block' n all) st = run_all p w bodies act all st
   run p w bodies act (Stmt.Call q f args dest) st = called p w bodies act q f args dest st
   run p w bodies act (Stmt.If' e n (more_of-Stmt a end_of-Stmt) m (more_of-Stmt b end_of-Stmt) marked) st =

@@ -29,7 +29,7 @@ use Rattle.sa_typed.specs.declared.program.Program.{Program}
 unfoldable mutual
   pub IsStraight : Stmt → Type 0
   IsStraight (Stmt.Simple s) = Unit {0}
-  IsStraight (Stmt.Static v) = Unit {0}
+  IsStraight (Stmt.Scope v) = Unit {0}
   IsStraight (Stmt.Block' n all) = AreStraight all
   IsStraight _ = ⊥
 

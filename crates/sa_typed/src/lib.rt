@@ -13,6 +13,8 @@ mod laws;
 mod program;
 mod shape;
 mod stmt;
+#[cfg(test)]
+mod tests;
 
 pub use arithmetic::{
     as_num, bits, common, converted, is_of, is_signed, literal_type, promoted, wrapped,

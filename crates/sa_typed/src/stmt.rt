@@ -70,8 +70,9 @@ pub enum LoopKind {
 #[derive(Drop)]
 pub enum Stmt {
     Simple(Simple),
-    /// The declaration of a static local by its number. It does nothing, and stands for where the local's scope begins.
-    Static(u32),
+    /// From here on the local with this number is in scope. Nothing is done: the local is static, or a call that follows gives
+    /// it its value.
+    Scope(u32),
     Block(Items<Stmt>),
     /// The place of the called name, the function's number, an argument for each parameter, and where the result goes.
     Call(Pos, u32, Items<Arg>, Option<Destination>),
