@@ -19,6 +19,7 @@ use Rattle.sa_typed.specs.declared.expr.Step.TheVariants as step
 use Rattle.sa_typed.specs.declared.program.Input as program
 use Rattle.sa_typed.specs.declared.program.Program.{Program}
 use Rattle.sa_typed.specs.declared.stmt.Simple.{Simple}
+use Rattle.sa_typed.specs.declared.stmt.LoopKind.TheVariants as kind
 use Rattle.sa_typed.specs.declared.stmt.Stmt.{Stmt, Row_of-Stmt, end_of-Stmt, more_of-Stmt, items-the_row-Stmt, items_hidden-the_row-Stmt-0}
 use Rattle.sa_typed.specs.declared.stmt.Stmt.TheVariants as s
 
@@ -247,7 +248,6 @@ stmts_row p n (more_of-Stmt x rest) h = (h.0, stmts_row p _ rest h.1)
 
 abbrev stmts_of : Stmt → (n : _) × Row_of-Stmt n
 stmts_of (Stmt.Block' n r) = (_, r)
-stmts_of (Stmt.Clock' q n r) = (_, r)
 stmts_of _ = (_, end_of-Stmt)
 
 module _ (p : Program) where
@@ -259,6 +259,7 @@ module _ (p : Program) where
   unfolding IsTypedStmt
   block_typed all h = let r = stmts_of (s.Block all) in stmts_row p r.0 r.1 (subst (AllStmts p) (sym (items_hidden-the_row-Stmt-0 all)) h)
 
-  pub clock_typed : (q : Pos) (all : List Stmt) → AllStmts p all → IsTypedStmt p (s.Clock q all)
-  unfolding IsTypedStmt
-  clock_typed q all h = let r = stmts_of (s.Clock q all) in stmts_row p r.0 r.1 (subst (AllStmts p) (sym (items_hidden-the_row-Stmt-0 all)) h)
+  -- the clock loop around statements, of which the wait is the last
+  pub clock_typed : (q : Pos) (all : List Stmt) → AllStmts p all → IsTypedStmt p (s.Loop q kind.Clock None (s.Block (all ++ s.Wait ∷ [])) None)
+  unfolding IsTypedStmt Rattle.sa_typed.specs.declared.stmt.Stmt.TheBlock.hidden-the_row-Stmt-1 denote.Hole.Carrier.hidden
+  clock_typed q all h = block_typed (all ++ s.Wait ∷ []) (stmts_append p all s.Wait h tt)

@@ -36,7 +36,7 @@ use Rattle.sa_scopes.specs.Structures.{size_by, sum_by, sizes_of, cells_in, var_
 use Rattle.sa_declarations.specs.Declarations.{is_struct}
 use Rattle.sa_typer.specs.Statements.{item}
 use Rattle.sa_typer.specs.Bodies as body
-use Rattle.sa_typer.specs.Bodies.{block, no_body, main_by, main_item, main_items, main_block, clock_loop}
+use Rattle.sa_typer.specs.Bodies.{block, clock_stmt, no_body, main_by, main_item, main_items, main_block, clock_loop}
 use Rattle.sa_typer.specs.Units as unit
 use Rattle.sa_typer.specs.Units.{plain_type, type_name, is_main, first_main, main, blank, Answer, Accepts, Refuses, TooManyCells, has_entry, program, cells, result_of, result_cells, refusals_by, refusals_in, refusals, accepted_by, accepted_in, unless_refused, answer}
 use Rattle.sa_scopes.specs.Refusals.{least_of}
@@ -66,7 +66,7 @@ module _ (p : Program) where
   GoodBody b = AllStmts p b.stmts
 
   main_by_leads : (o : Option (List BlockItem)) (i : BlockItem) (b : Body) (s : Typer) → Leads p (GoodBody b) s (λ b t. GoodBody b) (main_by o i b s)
-  main_by_leads (Some before) i b s = next (block_leads before s) (λ ss t. gives (λ w h e. stmts_append p b.stmts (typed.Clock (item_pos i) ss) h.0 (clock_typed p (item_pos i) ss h.1)))
+  main_by_leads (Some before) i b s = next (block_leads before s) (λ ss t. gives (λ w h e. stmts_append p b.stmts (clock_stmt (item_pos i) ss) h.0 (clock_typed p (item_pos i) ss h.1)))
   main_by_leads None i b s = next (part_leads i b.stmts s) (λ ss t. gives (λ w h e. h.1))
 
   main_item_leads : (i : BlockItem) (b : Body) (s : Typer) → Leads p (GoodBody b) s (λ b t. GoodBody b) (main_item i b s)

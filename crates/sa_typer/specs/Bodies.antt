@@ -12,6 +12,7 @@ use Rattle.sa_syntax.specs.declared.stmt.First.{First}
 use Rattle.sa_syntax.specs.declared.stmt.First.TheVariants as first
 use Rattle.sa_syntax.specs.declared.stmt.Simple.{Simple}
 use Rattle.sa_syntax.specs.declared.stmt.Stmt.{Stmt as Tree, out-Stmt}
+use Rattle.sa_typed.specs.declared.stmt.LoopKind.TheVariants as kind
 use Rattle.sa_typed.specs.declared.stmt.Stmt.{Stmt}
 use Rattle.sa_typed.specs.declared.stmt.Stmt.TheVariants as t
 use Rattle.sa_typer.specs.declared.bodies.Body.{Body}
@@ -68,9 +69,13 @@ clock_loop i = elim (out-BlockItem i) as (λ _. Option (List BlockItem)) [ Block
 abbrev pub no_body : Body
 no_body = record { stmts = []; clock = false }
 
+-- the clock loop as a typed statement: the wait comes last in it
+abbrev pub clock_stmt : Pos → List Stmt → Stmt
+clock_stmt q ss = t.Loop q kind.Clock None (t.Block (ss ++ t.Wait ∷ [])) None
+
 -- an item, given what stands before the wait where it is a clock loop; its first token is the loop's word
 abbrev pub main_by : Option (List BlockItem) → BlockItem → Body → Typing Body
-main_by (Some before) i b = block before >>= (λ ss. pure (record { stmts = b.stmts ++ t.Clock (item_pos i) ss ∷ []; clock = true }))
+main_by (Some before) i b = block before >>= (λ ss. pure (record { stmts = b.stmts ++ clock_stmt (item_pos i) ss ∷ []; clock = true }))
 main_by None i b = item i b.stmts >>= (λ ss. pure (record b { stmts = ss }))
 
 unfoldable pub main_item : BlockItem → Body → Typing Body

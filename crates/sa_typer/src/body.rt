@@ -1,17 +1,17 @@
 //! The block of `main`, with the clock loop directly in it.
 
-ghost use Rattle.std.specs.Prelude.{◌≡◌, option_map};
+ghost use Rattle.std.specs.Prelude.{◌≡◌, IfOk, option_map};
 ghost use Rattle.sa_typer.specs.Bodies as spec;
 ghost use Rattle.sa_scopes.specs.Typing.{Yields, given};
 
 use crate::bodies::Body;
 use crate::statement::{block, item, leave};
-use sa_base::OutOfMemory;
+use sa_base::{OutOfMemory, Pos};
 use sa_scopes::first::item_pos;
 use sa_scopes::typer::Typer;
 use sa_syntax::{BlockItem, Directive, Expr, First, Simple};
-use sa_typed::Stmt;
-use sqlite_items::Items;
+use sa_typed::{LoopKind, Stmt};
+use sqlite_items::{Boxed, Items};
 use std::alloc::Global;
 
 // ---- the clock loop
@@ -115,6 +115,16 @@ fn clock_loop(item: &BlockItem) -> Option<&[BlockItem]>
 
 // ---- the block
 
+/// The clock loop with these statements before its wait.
+fn clock_stmt(alloc: Global, pos: Pos, before: Items<Stmt>) -> Result<Stmt, OutOfMemory>
+    ensures { IfOk result (λ stmt. stmt ≡ spec.clock_stmt pos before) }
+{
+    let mut stmts = before;
+    stmts.push(Stmt::Wait)?;
+    let body = Boxed::new(alloc, Stmt::Block(stmts))?;
+    Ok(Stmt::Loop(pos, LoopKind::Clock, None, body, None))
+}
+
 /// An item, which may be a clock loop.
 fn main_by(
     alloc: Global,
@@ -129,7 +139,7 @@ fn main_by(
         Some(before) => {
             found.clock = true;
             let stmts = block(alloc, typer, before)?;
-            found.stmts.push(Stmt::Clock(item_pos(one), stmts))
+            found.stmts.push(clock_stmt(alloc, item_pos(one), stmts)?)
         }
     }
 }
