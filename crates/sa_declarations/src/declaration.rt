@@ -21,10 +21,9 @@ use std::alloc::Global;
 
 /// A name with what it stands for, or a refusal where it is visible already.
 #[tactic(auto, unfolding(crate::specs::Declarations::named))]
-pub fn declare(
-    alloc: Global,
-    typer: &mut Typer,
-    name: &Name,
+pub fn declare<'a>(
+    typer: &mut Typer<'a>,
+    name: &'a Name,
     named: Named,
 ) -> Result<(), OutOfMemory>
     ensures { Yields (spec.named name.now named typer.old) result typer.new }
@@ -32,7 +31,7 @@ pub fn declare(
     if typer.names.contains(name.text.bytes()) {
         return typer.refuse(2, name.pos);
     }
-    typer.names.declare(alloc, name.text.bytes(), named)
+    typer.names.declare(name.text.bytes(), named)
 }
 
 // ---- variables and inputs
@@ -59,10 +58,10 @@ fn var(
 
 /// Another variable, and its number.
 #[tactic(auto, unfolding(crate::specs::Declarations::variable))]
-fn variable(
+fn variable<'a>(
     alloc: Global,
-    typer: &mut Typer,
-    name: &Name,
+    typer: &mut Typer<'a>,
+    name: &'a Name,
     shape: Shape,
     home: Home,
     constant: bool,
@@ -71,7 +70,7 @@ fn variable(
     ensures { Yields (spec.variable name.now shape home constant initial typer.old) result typer.new }
 {
     let number = number(typer.vars.len())?;
-    declare(alloc, typer, name, Named::Variable(number))?;
+    declare(typer, name, Named::Variable(number))?;
     let var = var(alloc, name, shape, home, constant, initial)?;
     add_var(typer, var)?;
     Ok(number)
@@ -85,11 +84,11 @@ fn add_var(typer: &mut Typer, var: Var) -> Result<(), OutOfMemory>
 
 /// Another input.
 #[tactic(auto, unfolding(crate::specs::Declarations::input))]
-fn input(alloc: Global, typer: &mut Typer, name: &Name, num: Num) -> Result<(), OutOfMemory>
+fn input<'a>(alloc: Global, typer: &mut Typer<'a>, name: &'a Name, num: Num) -> Result<(), OutOfMemory>
     ensures { Yields (spec.input name.now num typer.old) result typer.new }
 {
     let number = number(typer.inputs.len())?;
-    declare(alloc, typer, name, Named::Input(number, num))?;
+    declare(typer, name, Named::Input(number, num))?;
     let name = Text::of_bytes(alloc, name.text.bytes())?;
     typer.inputs.push(Input { name, num })
 }
@@ -128,12 +127,12 @@ fn input_type(
 }
 
 /// The initial values of a global.
-fn initial(
+fn initial<'a>(
     alloc: Global,
-    typer: &mut Typer,
+    typer: &mut Typer<'a>,
     volatile: bool,
     shape: &Shape,
-    start: &sa_syntax::Start,
+    start: &'a sa_syntax::Start,
 ) -> Result<Items<i128>, OutOfMemory>
     ensures { Yields (spec.initial volatile shape.now start.now typer.old) result typer.new }
 {
@@ -146,15 +145,15 @@ fn initial(
     }
 }
 
-fn global_by(
+fn global_by<'a>(
     alloc: Global,
-    typer: &mut Typer,
+    typer: &mut Typer<'a>,
     input_type: Option<Num>,
     volatile: bool,
     ty: Ty,
-    name: &Name,
+    name: &'a Name,
     shape: Shape,
-    start: &sa_syntax::Start,
+    start: &'a sa_syntax::Start,
 ) -> Result<(), OutOfMemory>
     ensures { Yields (spec.global_by input_type volatile ty name.now shape start.now typer.old) result typer.new }
 {
@@ -170,12 +169,12 @@ fn global_by(
 }
 
 #[tactic(auto, unfolding(crate::specs::Declarations::global))]
-fn global(
+fn global<'a>(
     alloc: Global,
-    typer: &mut Typer,
+    typer: &mut Typer<'a>,
     volatile: bool,
     ty: Ty,
-    declr: &InitDeclr,
+    declr: &'a InitDeclr,
 ) -> Result<(), OutOfMemory>
     ensures { Yields (spec.global volatile ty declr.now typer.old) result typer.new }
 {
@@ -195,12 +194,12 @@ fn global(
 }
 
 #[tactic(auto, using(sa_scopes::proofs::Loops::loops))]
-fn globals(
+fn globals<'a>(
     alloc: Global,
-    typer: &mut Typer,
+    typer: &mut Typer<'a>,
     volatile: bool,
     ty: Ty,
-    all: &[InitDeclr],
+    all: &'a [InitDeclr],
 ) -> Result<(), OutOfMemory>
     ensures { Yields (spec.globals volatile ty all.now typer.old) result typer.new }
 {
@@ -242,11 +241,11 @@ pub fn is_struct(element: Element) -> bool
 
 /// A declaration at file scope, where `volatile` may stand before scalars: its variables and inputs, in the order of the text.
 #[tactic(auto, unfolding(crate::specs::Declarations::declared))]
-pub fn declare_globals(
+pub fn declare_globals<'a>(
     alloc: Global,
-    typer: &mut Typer,
-    ty: &Specifiers,
-    all: &[InitDeclr],
+    typer: &mut Typer<'a>,
+    ty: &'a Specifiers,
+    all: &'a [InitDeclr],
 ) -> Result<(), OutOfMemory>
     ensures { Yields (spec.declared ty.now all.now typer.old) result typer.new }
 {
@@ -289,12 +288,12 @@ fn begun_with(
     }
 }
 
-fn begun_by(
+fn begun_by<'a>(
     alloc: Global,
-    typer: &mut Typer,
+    typer: &mut Typer<'a>,
     pos: Pos,
     shape: &Shape,
-    value: &Init,
+    value: &'a Init,
 ) -> Result<Beginning, OutOfMemory>
     ensures { Yields (spec.begun_by pos shape.now value.now typer.old) result typer.new }
 {
@@ -313,11 +312,11 @@ fn begun_by(
 
 /// What a local begins with.
 #[tactic(auto, unfolding(crate::specs::Declarations::begun))]
-fn begun(
+fn begun<'a>(
     alloc: Global,
-    typer: &mut Typer,
+    typer: &mut Typer<'a>,
     shape: &Shape,
-    start: &LocalStart,
+    start: &'a LocalStart,
 ) -> Result<Beginning, OutOfMemory>
     ensures { Yields (spec.begun shape.now start.now typer.old) result typer.new }
 {
@@ -329,11 +328,11 @@ fn begun(
     }
 }
 
-fn local_as(
+fn local_as<'a>(
     alloc: Global,
-    typer: &mut Typer,
+    typer: &mut Typer<'a>,
     ty: Ty,
-    name: &Name,
+    name: &'a Name,
     shape: Shape,
     beginning: Beginning,
 ) -> Result<Stmt, OutOfMemory>
@@ -353,11 +352,11 @@ fn local_as(
 }
 
 #[tactic(auto, unfolding(crate::specs::Declarations::local_of))]
-fn local_of(
+fn local_of<'a>(
     alloc: Global,
-    typer: &mut Typer,
+    typer: &mut Typer<'a>,
     ty: Ty,
-    declr: &LocalDeclr,
+    declr: &'a LocalDeclr,
 ) -> Result<Stmt, OutOfMemory>
     ensures { Yields (spec.local_of ty declr.now typer.old) result typer.new }
 {
@@ -367,11 +366,11 @@ fn local_of(
     local_as(alloc, typer, ty, &declr.declr.name, shape, beginning)
 }
 
-fn next_local(
+fn next_local<'a>(
     alloc: Global,
-    typer: &mut Typer,
+    typer: &mut Typer<'a>,
     ty: Ty,
-    declr: &LocalDeclr,
+    declr: &'a LocalDeclr,
     found: &mut Items<Stmt>,
 ) -> Result<(), OutOfMemory>
     ensures { Yields (spec.next_local ty declr.now found.old typer.old) (given result found.new) typer.new }
@@ -381,11 +380,11 @@ fn next_local(
 }
 
 #[tactic(auto, using(sa_scopes::proofs::Loops::loops))]
-fn locals(
+fn locals<'a>(
     alloc: Global,
-    typer: &mut Typer,
+    typer: &mut Typer<'a>,
     ty: Ty,
-    all: &[LocalDeclr],
+    all: &'a [LocalDeclr],
     found: &mut Items<Stmt>,
 ) -> Result<(), OutOfMemory>
     ensures { Yields (spec.locals ty all.now found.old typer.old) (given result found.new) typer.new }
@@ -398,10 +397,10 @@ fn locals(
 
 /// A declaration in a block: its variables, and for each a statement after those so far.
 #[tactic(auto, unfolding(crate::specs::Declarations::local))]
-pub fn declare_locals(
+pub fn declare_locals<'a>(
     alloc: Global,
-    typer: &mut Typer,
-    local: &Local,
+    typer: &mut Typer<'a>,
+    local: &'a Local,
     found: &mut Items<Stmt>,
 ) -> Result<(), OutOfMemory>
     ensures { Yields (spec.local local.now found.old typer.old) (given result found.new) typer.new }

@@ -146,10 +146,10 @@ fn valued(
 
 /// The values of an object's elements, after those so far. The object stands so many dimensions inside a shape.
 #[cycle(initialising)]
-fn init(
+fn init<'a>(
     alloc: Global,
-    typer: &mut Typer,
-    init: &Init,
+    typer: &mut Typer<'a>,
+    init: &'a Init,
     shape: &Shape,
     depth: usize,
     found: Values,
@@ -168,10 +168,10 @@ fn init(
 
 /// The items between braces, which stand at that place.
 #[cycle(initialising)]
-fn items(
+fn items<'a>(
     alloc: Global,
-    typer: &mut Typer,
-    all: &[Init],
+    typer: &mut Typer<'a>,
+    all: &'a [Init],
     pos: Pos,
     shape: &Shape,
     depth: usize,
@@ -189,10 +189,10 @@ fn items(
 
 /// The item with that number; one too many counts as one for an int.
 #[cycle(initialising)]
-fn nth_item(
+fn nth_item<'a>(
     alloc: Global,
-    typer: &mut Typer,
-    one: &Init,
+    typer: &mut Typer<'a>,
+    one: &'a Init,
     pos: Pos,
     shape: &Shape,
     depth: usize,
@@ -212,10 +212,10 @@ fn nth_item(
 }
 
 /// The values of an object that an initialiser gives, without the zeros at the end.
-pub fn initial_values(
+pub fn initial_values<'a>(
     alloc: Global,
-    typer: &mut Typer,
-    first: &Init,
+    typer: &mut Typer<'a>,
+    first: &'a Init,
     shape: &Shape,
 ) -> Result<Items<i128>, OutOfMemory>
     ensures { Yields (spec.values first.now shape.now typer.old) result typer.new }

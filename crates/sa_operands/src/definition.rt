@@ -53,7 +53,7 @@ pub fn dimension(typer: &mut Typer, pos: Pos, operand: &Operand) -> Result<u32, 
 
 // ---- fields
 
-pub fn no_fields(alloc: Global) -> Fields
+pub fn no_fields<'a>(alloc: Global) -> Fields<'a>
     ensures { result ≡ spec.no_fields }
 {
     Fields {
@@ -75,10 +75,10 @@ fn is_taken(typer: &Typer, fields: &Fields, name: &[u8]) -> bool
 }
 
 /// Declares a field whose name isn't visible.
-fn declare(
+fn declare<'a>(
     alloc: Global,
-    fields: &mut Fields,
-    name: &[u8],
+    fields: &mut Fields<'a>,
+    name: &'a [u8],
     shape: Shape,
     constant: bool,
 ) -> Result<(), OutOfMemory>
@@ -89,18 +89,18 @@ fn declare(
         name: Text::of_bytes(alloc, name)?,
         shape,
     })?;
-    fields.names.declare(alloc, name, constant)
+    fields.names.declare(name, constant)
 }
 
 /// Another field.
 #[tactic(auto, unfolding(crate::specs::Definitions::field))]
-pub fn field(
+pub fn field<'a>(
     alloc: Global,
-    typer: &mut Typer,
-    name: &Name,
+    typer: &mut Typer<'a>,
+    name: &'a Name,
     ty: Ty,
     dimensions: Items<u32>,
-    fields: &mut Fields,
+    fields: &mut Fields<'a>,
 ) -> Result<(), OutOfMemory>
     ensures { Yields (spec.field name.now ty dimensions fields.old typer.old) (given result fields.new) typer.new }
 {
@@ -115,10 +115,9 @@ pub fn field(
 
 /// Declares a tag, and answers its number; none where it was declared before.
 #[tactic(auto, unfolding(crate::specs::Definitions::opened))]
-pub fn open_tag(
-    alloc: Global,
-    typer: &mut Typer,
-    tag: &Option<Name>,
+pub fn open_tag<'a>(
+    typer: &mut Typer<'a>,
+    tag: &'a Option<Name>,
 ) -> Result<Option<usize>, OutOfMemory>
     ensures { Yields (spec.opened tag.now typer.old) result typer.new }
 {
@@ -130,7 +129,7 @@ pub fn open_tag(
                 return Ok(None);
             }
             let at = typer.tags.count();
-            typer.tags.declare(alloc, tag.text.bytes(), Tagged::Open)?;
+            typer.tags.declare(tag.text.bytes(), Tagged::Open)?;
             Ok(Some(at))
         }
     }
@@ -155,14 +154,14 @@ fn set_tag(tags: &mut Scope<Tagged>, at: Option<usize>, number: u32)
 
 /// The structure, which is defined from here on.
 #[tactic(auto, unfolding(crate::specs::Definitions::closed))]
-pub fn close(
+pub fn close<'a>(
     alloc: Global,
-    typer: &mut Typer,
+    typer: &mut Typer<'a>,
     tag: &Option<Name>,
     at: Option<usize>,
-    fields: Fields,
+    fields: Fields<'a>,
 ) -> Result<Ty, OutOfMemory>
-    ensures { Yields (spec.closed tag.now at fields typer.old) result typer.new }
+    ensures { Yields (spec.closed tag.now at fields.entry typer.old) result typer.new }
 {
     let name = name_or_empty(alloc, tag)?;
     let number = typer.structs.define(name, fields)?;

@@ -26,7 +26,7 @@ use std::alloc::Global;
 /// What an expression is typed as; what is wrong with it is noted in the state, and an error is want of memory alone.
 #[cycle(typing)]
 #[tactic(auto, using(crate::proofs::ExprRows::expr_rows))]
-pub fn expr(alloc: Global, typer: &mut Typer, e: &Expr) -> Result<Operand, OutOfMemory>
+pub fn expr<'a>(alloc: Global, typer: &mut Typer<'a>, e: &'a Expr) -> Result<Operand, OutOfMemory>
     ensures { Yields (spec.expr e.now typer.old) result typer.new }
 {
     match e {
@@ -70,7 +70,7 @@ fn beside_head(typer: &mut Typer, more: &[Link], first: &Expr) -> Result<(), Out
 }
 
 #[cycle(typing)]
-fn link(alloc: Global, typer: &mut Typer, link: &Link, left: Left) -> Result<Left, OutOfMemory>
+fn link<'a>(alloc: Global, typer: &mut Typer<'a>, link: &'a Link, left: Left) -> Result<Left, OutOfMemory>
     ensures { Yields (list.link link.now left typer.old) result typer.new }
 {
     let operand = expr(alloc, typer, &link.operand)?;
@@ -80,7 +80,7 @@ fn link(alloc: Global, typer: &mut Typer, link: &Link, left: Left) -> Result<Lef
 
 #[cycle(typing)]
 #[tactic(auto, using(sa_scopes::proofs::Loops::loops))]
-fn links(alloc: Global, typer: &mut Typer, all: &[Link], first: Left) -> Result<Left, OutOfMemory>
+fn links<'a>(alloc: Global, typer: &mut Typer<'a>, all: &'a [Link], first: Left) -> Result<Left, OutOfMemory>
     ensures { Yields (list.links all.now first typer.old) result typer.new }
 {
     let mut left = first;
@@ -93,7 +93,7 @@ fn links(alloc: Global, typer: &mut Typer, all: &[Link], first: Left) -> Result<
 /// What a place is typed as, with its steps in the order of the text.
 #[cycle(typing)]
 #[tactic(auto, unfolding(crate::specs::Lists::spot))]
-pub fn spot(alloc: Global, typer: &mut Typer, place: &Place) -> Result<Spot, OutOfMemory>
+pub fn spot<'a>(alloc: Global, typer: &mut Typer<'a>, place: &'a Place) -> Result<Spot, OutOfMemory>
     ensures { Yields (list.spot place.now typer.old) result typer.new }
 {
     let spot = begins(alloc, typer, &place.base)?;
@@ -102,7 +102,7 @@ pub fn spot(alloc: Global, typer: &mut Typer, place: &Place) -> Result<Spot, Out
 
 #[cycle(typing)]
 #[tactic(auto, using(sa_scopes::proofs::Loops::loops))]
-fn steps(alloc: Global, typer: &mut Typer, all: &[Step], first: Spot) -> Result<Spot, OutOfMemory>
+fn steps<'a>(alloc: Global, typer: &mut Typer<'a>, all: &'a [Step], first: Spot) -> Result<Spot, OutOfMemory>
     ensures { Yields (list.steps all.now first typer.old) result typer.new }
 {
     let mut spot = first;
@@ -114,7 +114,7 @@ fn steps(alloc: Global, typer: &mut Typer, all: &[Step], first: Spot) -> Result<
 
 #[cycle(typing)]
 #[tactic(auto, using(crate::proofs::ExprRows::step_rows))]
-fn step(alloc: Global, typer: &mut Typer, step: &Step, spot: Spot) -> Result<Spot, OutOfMemory>
+fn step<'a>(alloc: Global, typer: &mut Typer<'a>, step: &'a Step, spot: Spot) -> Result<Spot, OutOfMemory>
     ensures { Yields (spec.step step.now spot typer.old) result typer.new }
 {
     match step {
@@ -131,7 +131,7 @@ fn step(alloc: Global, typer: &mut Typer, step: &Step, spot: Spot) -> Result<Spo
 
 #[cycle(typing)]
 #[tactic(auto, using(crate::proofs::ExprRows::base_rows))]
-fn base_type(alloc: Global, typer: &mut Typer, ty: &Specifiers) -> Result<Ty, OutOfMemory>
+fn base_type<'a>(alloc: Global, typer: &mut Typer<'a>, ty: &'a Specifiers) -> Result<Ty, OutOfMemory>
     ensures { Yields (spec.base_type (out-Specifiers ty.now).pos (out-Specifiers ty.now).base typer.old) result typer.new }
 {
     match &ty.base {
@@ -146,7 +146,7 @@ fn base_type(alloc: Global, typer: &mut Typer, ty: &Specifiers) -> Result<Ty, Ou
 /// A type with its qualifiers, which aren't refused here.
 #[cycle(typing)]
 #[tactic(auto, unfolding(crate::specs::Lists::type_of))]
-pub fn type_of(alloc: Global, typer: &mut Typer, ty: &Specifiers) -> Result<Ty, OutOfMemory>
+pub fn type_of<'a>(alloc: Global, typer: &mut Typer<'a>, ty: &'a Specifiers) -> Result<Ty, OutOfMemory>
     ensures { Yields (list.type_of ty.now typer.old) result typer.new }
 {
     let base = base_type(alloc, typer, ty)?;
@@ -156,7 +156,7 @@ pub fn type_of(alloc: Global, typer: &mut Typer, ty: &Specifiers) -> Result<Ty, 
 /// The type of an object, where `void` is refused.
 #[cycle(typing)]
 #[tactic(auto, unfolding(crate::specs::Lists::object_type, crate::specs::Lists::type_of))]
-pub fn object_type(alloc: Global, typer: &mut Typer, ty: &Specifiers) -> Result<Ty, OutOfMemory>
+pub fn object_type<'a>(alloc: Global, typer: &mut Typer<'a>, ty: &'a Specifiers) -> Result<Ty, OutOfMemory>
     ensures { Yields (list.object_type ty.now typer.old) result typer.new }
 {
     let whole = type_of(alloc, typer, ty)?;
@@ -166,10 +166,10 @@ pub fn object_type(alloc: Global, typer: &mut Typer, ty: &Specifiers) -> Result<
 /// A structure that is defined, with its tag where it has one.
 #[cycle(typing)]
 #[tactic(auto, using(crate::proofs::ExprRows::struct_rows))]
-pub fn structure(alloc: Global, typer: &mut Typer, body: &Struct) -> Result<Ty, OutOfMemory>
+pub fn structure<'a>(alloc: Global, typer: &mut Typer<'a>, body: &'a Struct) -> Result<Ty, OutOfMemory>
     ensures { Yields (spec.structure body.now typer.old) result typer.new }
 {
-    let at = open_tag(alloc, typer, &body.tag)?;
+    let at = open_tag(typer, &body.tag)?;
     let mut found = no_fields(alloc);
     fields(alloc, typer, body.fields.as_slice(), &mut found)?;
     close(alloc, typer, &body.tag, at, found)
@@ -177,11 +177,11 @@ pub fn structure(alloc: Global, typer: &mut Typer, body: &Struct) -> Result<Ty, 
 
 #[cycle(typing)]
 #[tactic(auto, using(sa_scopes::proofs::Loops::loops))]
-fn fields(
+fn fields<'a>(
     alloc: Global,
-    typer: &mut Typer,
-    all: &[Field],
-    found: &mut Fields,
+    typer: &mut Typer<'a>,
+    all: &'a [Field],
+    found: &mut Fields<'a>,
 ) -> Result<(), OutOfMemory>
     ensures { Yields (list.fields all.now found.old typer.old) (given result found.new) typer.new }
 {
@@ -193,11 +193,11 @@ fn fields(
 
 #[cycle(typing)]
 #[tactic(auto, using(crate::proofs::ExprRows::struct_rows))]
-fn field_group(
+fn field_group<'a>(
     alloc: Global,
-    typer: &mut Typer,
-    group: &Field,
-    found: &mut Fields,
+    typer: &mut Typer<'a>,
+    group: &'a Field,
+    found: &mut Fields<'a>,
 ) -> Result<(), OutOfMemory>
     ensures { Yields (spec.field group.now found.old typer.old) (given result found.new) typer.new }
 {
@@ -208,12 +208,12 @@ fn field_group(
 
 #[cycle(typing)]
 #[tactic(auto, using(sa_scopes::proofs::Loops::loops))]
-fn declrs(
+fn declrs<'a>(
     alloc: Global,
-    typer: &mut Typer,
+    typer: &mut Typer<'a>,
     ty: Ty,
-    all: &[Declr],
-    found: &mut Fields,
+    all: &'a [Declr],
+    found: &mut Fields<'a>,
 ) -> Result<(), OutOfMemory>
     ensures { Yields (list.declrs ty all.now found.old typer.old) (given result found.new) typer.new }
 {
@@ -225,12 +225,12 @@ fn declrs(
 
 #[cycle(typing)]
 #[tactic(auto, using(crate::proofs::ExprRows::struct_rows))]
-fn declr(
+fn declr<'a>(
     alloc: Global,
-    typer: &mut Typer,
+    typer: &mut Typer<'a>,
     ty: Ty,
-    declr: &Declr,
-    found: &mut Fields,
+    declr: &'a Declr,
+    found: &mut Fields<'a>,
 ) -> Result<(), OutOfMemory>
     ensures { Yields (spec.declr ty declr.now found.old typer.old) (given result found.new) typer.new }
 {
@@ -241,7 +241,7 @@ fn declr(
 /// The dimensions of a declared name, the outermost first.
 #[cycle(typing)]
 #[tactic(auto, using(sa_scopes::proofs::Loops::loops))]
-pub fn bounds(alloc: Global, typer: &mut Typer, all: &[Bound]) -> Result<Items<u32>, OutOfMemory>
+pub fn bounds<'a>(alloc: Global, typer: &mut Typer<'a>, all: &'a [Bound]) -> Result<Items<u32>, OutOfMemory>
     ensures { Yields (list.bounds all.now [] typer.old) result typer.new }
 {
     let mut found = Items::new(alloc);
@@ -252,10 +252,10 @@ pub fn bounds(alloc: Global, typer: &mut Typer, all: &[Bound]) -> Result<Items<u
 }
 
 #[cycle(typing)]
-fn bound(
+fn bound<'a>(
     alloc: Global,
-    typer: &mut Typer,
-    bound: &Bound,
+    typer: &mut Typer<'a>,
+    bound: &'a Bound,
     found: &mut Items<u32>,
 ) -> Result<(), OutOfMemory>
     ensures { Yields (list.bound bound.now found.old typer.old) (given result found.new) typer.new }

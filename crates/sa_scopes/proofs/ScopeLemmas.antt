@@ -1,6 +1,7 @@
 -- Where names stand after one more declaration and without the newest ones, in the list and in the map.
 use Rattle.std.proofs.Common.{◌≡◌, ℕ, zero, suc, ◌+◌, ◌<◌, ◌≤◌, List, [], ◌∷◌, ◌++◌, Bool, true, false, length, take, refl, ap, sym, subst, ◌∙◌, arith, Option, Some, None, cond, ⊎_elim}
-use Rattle.std.specs.Prelude.{Vec, if◌then◌else◌, slice_get}
+use Rattle.std.specs.Prelude.{if◌then◌else◌, slice_get}
+use denote.Ref.{Bor}
 use Rattle.std.specs.Str.{bytes_eq}
 use Rattle.std.specs.Ordering.{is_eq, nat_cmp}
 use Rattle.std.specs.Cmp.{eq_by_cmp_equiv}
@@ -8,8 +9,9 @@ use Rattle.std.specs.Cmp.Lexicographic.{slice_cmp, bytes_decides, nat_list_cmp_t
 use Rattle.std.specs.Map.{lookup, IsKeyTest, AreApart, KeepsOthers}
 use Rattle.std.specs.BTreeMap.{BTreeMap, UpdatesBy}
 use Rattle.std.proofs.lemmas.Bool.{true≢false, cases_Bool, cond-true, cond-false}
+use Rattle.std.proofs.lemmas.List.{map-append, take-map, length-map}
 use Rattle.std.proofs.lemmas.Map.Text.{is_eq-slice_cmp}
-use Rattle.sa_scopes.specs.Scopes.{Scope, index_from, place_in, Finds, is_some, is_same, names_at}
+use Rattle.sa_scopes.specs.Scopes.{Scope, index_from, place_in, Finds, is_some, is_same, names_at, texts}
 
 -- ---- the map
 apart : (bs cs ks : List ℕ) → bytes_eq bs cs ≡ false → is_eq (slice_cmp nat_cmp bs ks) ≡ true → is_eq (slice_cmp nat_cmp cs ks) ≡ false
@@ -21,13 +23,13 @@ unfolding KeepsOthers
 other_entries eq test old new h = h
 
 -- a map from names after an insertion at a name
-pub place_in-updated : {Y : Type 0} (name : List ℕ) (m n : BTreeMap (Vec ℕ Y) ℕ) (o : Option ℕ) →
-    UpdatesBy (λ x y. slice_cmp nat_cmp x.items y.items) (λ k. slice_cmp nat_cmp name k.items) m n o →
+pub place_in-updated : (name : List ℕ) (m n : BTreeMap (Bor (List ℕ)) ℕ) (o : Option ℕ) →
+    UpdatesBy (λ x y. slice_cmp nat_cmp x.now y.now) (λ k. slice_cmp nat_cmp name k.now) m n o →
     (w : List ℕ) → place_in n w ≡ cond (bytes_eq name w) o (place_in m w)
-place_in-updated {Y} name m n o h w =
+place_in-updated name m n o h w =
     ⊎_elim
     (λ y. subst (λ (l : List ℕ). place_in n l ≡ o) ((bytes_decides name w).0 y) h.1 ∙ sym (cond-true (bytes_eq name w) o (place_in m w) y))
-    (λ d. other_entries _ _ _ _ h.3 _ (λ x y. (eq_by_cmp_equiv nat_list_cmp_total).congr w x.items y.items) (λ k. apart name w k.items d) ∙ sym (cond-false (bytes_eq name w) o (place_in m w) d))
+    (λ d. other_entries _ _ _ _ h.3 _ (λ x y. (eq_by_cmp_equiv nat_list_cmp_total).congr w x.now y.now) (λ k. apart name w k.now d) ∙ sym (cond-false (bytes_eq name w) o (place_in m w) d))
     (cases_Bool (bytes_eq name w))
 
 -- ---- the list
@@ -60,13 +62,13 @@ pub no_place : (o : Option ℕ) → ((j : ℕ) → o ≡ Some j → ⊥) → o �
 no_place None f = refl
 no_place (Some j) f = absurd (f j refl)
 
-pub is_index : {Y : Type 0} (places : BTreeMap (Vec ℕ Y) ℕ) (words : List (List ℕ)) (w : List ℕ) (i : ℕ) → Finds places words → place_in places w ≡ Some i → names_at words i w ≡ true → index_from 0 w words ≡ Some i
+pub is_index : (places : BTreeMap (Bor (List ℕ)) ℕ) (words : List (List ℕ)) (w : List ℕ) (i : ℕ) → Finds places words → place_in places w ≡ Some i → names_at words i w ≡ true → index_from 0 w words ≡ Some i
 is_index places words w i finds p h = at_place _ i (found_from 0 i w words h) (λ j e. sym p ∙ finds w j e)
 
-pub is_no_index : {Y : Type 0} (places : BTreeMap (Vec ℕ Y) ℕ) (words : List (List ℕ)) (w : List ℕ) (i : ℕ) → Finds places words → place_in places w ≡ Some i → names_at words i w ≡ false → index_from 0 w words ≡ None
+pub is_no_index : (places : BTreeMap (Bor (List ℕ)) ℕ) (words : List (List ℕ)) (w : List ℕ) (i : ℕ) → Finds places words → place_in places w ≡ Some i → names_at words i w ≡ false → index_from 0 w words ≡ None
 is_no_index places words w i finds p h = no_place _ (λ j e. let same : Some i ≡ Some j = sym p ∙ finds w j e in let k : i ≡ j = cc in true≢false (sym (stands j w words e) ∙ rw (← k) h))
 
-pub is_nowhere : {Y : Type 0} (places : BTreeMap (Vec ℕ Y) ℕ) (words : List (List ℕ)) (w : List ℕ) → Finds places words → place_in places w ≡ None → index_from 0 w words ≡ None
+pub is_nowhere : (places : BTreeMap (Bor (List ℕ)) ℕ) (words : List (List ℕ)) (w : List ℕ) → Finds places words → place_in places w ≡ None → index_from 0 w words ≡ None
 is_nowhere places words w finds p = no_place _ (λ j e. let same : None ≡ Some j = sym p ∙ finds w j e in cc)
 
 -- ---- the newest name
@@ -93,7 +95,7 @@ none_of None h = refl
 none_of (Some i) h = absurd (true≢false h)
 
 -- the map with the place of the name that is to come
-pub finds-noted : {Y : Type 0} (m n : BTreeMap (Vec ℕ Y) ℕ) (name : List ℕ) (words : List (List ℕ)) (k : ℕ) → is_some (index_from 0 name words) ≡ false → Finds m words →
+pub finds-noted : (m n : BTreeMap (Bor (List ℕ)) ℕ) (name : List ℕ) (words : List (List ℕ)) (k : ℕ) → is_some (index_from 0 name words) ≡ false → Finds m words →
     ((w : List ℕ) → place_in n w ≡ cond (bytes_eq name w) (Some k) (place_in m w)) → Finds n words
 finds-noted m n name words k fresh finds new w i e =
     ⊎_elim
@@ -101,18 +103,18 @@ finds-noted m n name words k fresh finds new w i e =
     (λ d. new w ∙ cond-false (bytes_eq name w) (Some k) (place_in m w) d ∙ finds w i e)
     (cases_Bool (bytes_eq name w))
 
-pub finds-pushed : {Y : Type 0} (m n : BTreeMap (Vec ℕ Y) ℕ) (name text : List ℕ) (words pushed : List (List ℕ)) (k : ℕ) → pushed ≡ words ++ text ∷ [] → is_some (index_from 0 name words) ≡ false → text ≡ name → k ≡ length words → Finds m words →
-    ((w : List ℕ) → place_in n w ≡ cond (bytes_eq name w) (Some k) (place_in m w)) → Finds n pushed
-finds-pushed m n name text words pushed k p fresh t len finds new w i e =
-    let e : index_from 0 w (words ++ name ∷ []) ≡ Some i = rw t at (rw p at e) in
+pub finds-pushed : (m n : BTreeMap (Bor (List ℕ)) ℕ) (name : Bor (List ℕ)) (words pushed : List (Bor (List ℕ))) (k : ℕ) → pushed ≡ words ++ name ∷ [] → is_some (index_from 0 name.now (texts words)) ≡ false → k ≡ length words → Finds m (texts words) →
+    ((w : List ℕ) → place_in n w ≡ cond (bytes_eq name.now w) (Some k) (place_in m w)) → Finds n (texts pushed)
+finds-pushed m n name words pushed k p fresh len finds new w i e =
+    let e : index_from 0 w (texts words ++ name.now ∷ []) ≡ Some i = rw (← map-append (λ (x : Bor (List ℕ)). x.now) words (name ∷ [])) (rw p at e) in
     ⊎_elim
-    (λ y. let same : name ≡ w = (bytes_decides name w).0 y in
-    let none : index_from 0 w words ≡ None = rw (← same) (none_of _ fresh) in
-    let here : i ≡ 0 + length words = last_here 0 i w name words none e in
-    let k_is : k ≡ i = omega (arith, len, here) in
-    new w ∙ cond-true (bytes_eq name w) (Some k) (place_in m w) y ∙ ap Some k_is)
-    (λ d. new w ∙ cond-false (bytes_eq name w) (Some k) (place_in m w) d ∙ finds w i (last_from 0 i w name words e d))
-    (cases_Bool (bytes_eq name w))
+    (λ y. let same : name.now ≡ w = (bytes_decides name.now w).0 y in
+    let none : index_from 0 w (texts words) ≡ None = rw (← same) (none_of _ fresh) in
+    let here : i ≡ 0 + length (texts words) = last_here 0 i w name.now (texts words) none e in
+    let k_is : k ≡ i = omega (arith, len, here, length-map words (λ (x : Bor (List ℕ)). x.now)) in
+    new w ∙ cond-true (bytes_eq name.now w) (Some k) (place_in m w) y ∙ ap Some k_is)
+    (λ d. new w ∙ cond-false (bytes_eq name.now w) (Some k) (place_in m w) d ∙ finds w i (last_from 0 i w name.now (texts words) e d))
+    (cases_Bool (bytes_eq name.now w))
 
 -- ---- the oldest names
 taken_from : (k i n : ℕ) (w : List ℕ) (ns : List (List ℕ)) → index_from k w (take n ns) ≡ Some i → index_from k w ns ≡ Some i
@@ -125,9 +127,9 @@ taken_from k i (suc n) w (m ∷ ns) h =
       | false ↦ λ h. taken_from (k + 1) i n w ns h
     ] h
 
-pub finds-taken : {Y : Type 0} (m : BTreeMap (Vec ℕ Y) ℕ) (n : ℕ) (words rest : List (List ℕ)) → rest ≡ take n words → Finds m words → Finds m rest
-finds-taken m n words rest r finds w i e = finds w i (taken_from 0 i n w words (rw r at e))
+pub finds-taken : (m : BTreeMap (Bor (List ℕ)) ℕ) (n : ℕ) (words rest : List (Bor (List ℕ))) → rest ≡ take n words → Finds m (texts words) → Finds m (texts rest)
+finds-taken m n words rest r finds w i e = finds w i (taken_from 0 i n w (texts words) (rw (r, ← take-map (λ (x : Bor (List ℕ)). x.now) n words) at e))
 
-pub finds-nothing : {Y : Type 0} (m : BTreeMap (Vec ℕ Y) ℕ) (words : List (List ℕ)) → words ≡ [] → Finds m words
+pub finds-nothing : (m : BTreeMap (Bor (List ℕ)) ℕ) (words : List (Bor (List ℕ))) → words ≡ [] → Finds m (texts words)
 unfolding index_from
 finds-nothing m words h w i e = absurd (let f : None ≡ Some i = rw h at e in cc)

@@ -1,5 +1,6 @@
 -- Names and what each stands for. There is no shadowing: a name that is visible isn't declared again, so each stands once.
-use Rattle.std.specs.Prelude.{ℕ, ◌≡◌, ◌+◌, List, [], ◌∷◌, ◌++◌, Bool, true, false, if◌then◌else◌, take, length, set, slice_get, Option, Some, None, Vec}
+use Rattle.std.specs.Prelude.{ℕ, ◌≡◌, ◌+◌, List, [], ◌∷◌, ◌++◌, Bool, true, false, if◌then◌else◌, take, length, set, map, slice_get, Option, Some, None}
+use denote.Ref.{Bor}
 use Rattle.std.specs.Ordering.{nat_cmp}
 use Rattle.std.specs.Cmp.Lexicographic.{slice_cmp}
 use Rattle.std.specs.BTreeMap.{BTreeMap, get_by}
@@ -51,12 +52,16 @@ oldest n s = record { words = take n s.words; meanings = take n s.meanings }
 abbrev pub count : {M : Type 0} → Scope M → ℕ
 count s = length s.words
 
+-- names as they stand in the source
+abbrev pub texts : List (Bor (List ℕ)) → List (List ℕ)
+texts ws = map (λ w. w.now) ws
+
 -- what a map from names has at a name
-abbrev pub place_in : {Y : Type 0} → BTreeMap (Vec ℕ Y) ℕ → List ℕ → Option ℕ
-place_in places w = get_by (λ k. slice_cmp nat_cmp w k.items) places
+abbrev pub place_in : BTreeMap (Bor (List ℕ)) ℕ → List ℕ → Option ℕ
+place_in places w = get_by (λ k. slice_cmp nat_cmp w k.now) places
 
 -- the map has the place of each name
-abbrev pub Finds : {Y : Type 0} → BTreeMap (Vec ℕ Y) ℕ → List (List ℕ) → Type 0
+abbrev pub Finds : BTreeMap (Bor (List ℕ)) ℕ → List (List ℕ) → Type 0
 Finds places words = (w : List ℕ) (i : ℕ) → index_from 0 w words ≡ Some i → place_in places w ≡ Some i
 
 -- whether the name with that number is this one

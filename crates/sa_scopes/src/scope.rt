@@ -4,7 +4,7 @@ ghost use Rattle.std.specs.Prelude.{◌≡◌, slice_get, List, ℕ, Some, false
 ghost use Rattle.std.specs.Str.{bytes_eq};
 ghost use Rattle.sa_scopes.specs.Scopes as spec;
 
-use sa_base::{OutOfMemory, Text};
+use sa_base::OutOfMemory;
 use std::alloc::Global;
 use std::collections::BTreeMap;
 use std::marker::Model;
@@ -12,27 +12,26 @@ use std::marker::Model;
 /// Names, the oldest first, and what each stands for. A name is looked up in a map, whatever their number; the map may still
 /// have places of names that are not visible any more.
 #[derive(Drop)]
-pub struct Scope<M> {
-    words: Vec<Text>,
+pub struct Scope<'a, M> {
+    words: Vec<&'a [u8]>,
     meanings: Vec<M>,
-    places: BTreeMap<Vec<u8>, usize>,
+    places: BTreeMap<&'a [u8], usize>,
 }
 
-impl<M> Model for Scope<M> {
+impl<'a, M> Model for Scope<'a, M> {
     ghost use Rattle.sa_scopes.specs.Scopes as spec;
+    ghost use Rattle.sa_scopes.specs.Scopes.{Finds, texts};
 
     ghost Value = { spec.Scope M };
 
-    ghost view = { λ s. record { words = s.words.items; meanings = s.meanings.items } };
+    ghost view = { λ s. record { words = texts s.words.items; meanings = s.meanings.items } };
 
-    ghost use Rattle.sa_scopes.specs.Scopes.{Finds};
-
-    ghost invariant = { λ s. Finds s.places s.words.items };
+    ghost invariant = { λ s. Finds s.places (texts s.words.items) };
 }
 
-impl<M> Scope<M> {
+impl<'a, M> Scope<'a, M> {
     /// No names.
-    pub fn new(alloc: Global) -> Scope<M>
+    pub fn new(alloc: Global) -> Scope<'a, M>
         ensures { result ≡ spec.nothing }
     {
         Scope {
@@ -73,7 +72,7 @@ impl<M> Scope<M> {
     }
 }
 
-impl<M: Copy> Scope<M> {
+impl<'a, M: Copy> Scope<'a, M> {
     /// What a name stands for, where it is visible.
     #[tactic(auto, unfolding(crate::specs::Scopes::meaning_of))]
     pub fn meaning(&self, name: &[u8]) -> Option<M>
@@ -91,13 +90,13 @@ impl<M: Copy> Scope<M> {
     }
 
     /// Declares a name that isn't visible.
-    pub fn declare(&mut self, alloc: Global, name: &[u8], meaning: M) -> Result<(), OutOfMemory>
+    pub fn declare(&mut self, name: &'a [u8], meaning: M) -> Result<(), OutOfMemory>
         requires { spec.is_visible self.old name.now ≡ false }
         ensures { OnOk result (self.new ≡ spec.with_name self.old name.now meaning) }
     {
         let place = self.count();
-        note(alloc, &mut self.places, name, place)?;
-        self.words.push(Text::of_bytes(alloc, name)?)?;
+        note(&mut self.places, name, place)?;
+        self.words.push(name)?;
         self.meanings.push(meaning)?;
         Ok(())
     }
@@ -122,32 +121,31 @@ impl<M: Copy> Scope<M> {
 
 /// Whether the name with that number is this one.
 #[tactic(auto, unfolding(crate::specs::Scopes::names_at))]
-fn names_at(words: &[Text], at: usize, name: &[u8]) -> bool
-    ensures { result ≡ spec.names_at words.now at name.now }
+fn names_at(words: &[&[u8]], at: usize, name: &[u8]) -> bool
+    ensures { result ≡ spec.names_at (spec.texts words.now) at name.now }
 {
     match words.get(at) {
         None => false,
-        Some(word) => word.bytes() == name,
+        Some(word) => *word == name,
     }
 }
 
 /// The place that the map has of a name.
-fn place_in(places: &BTreeMap<Vec<u8>, usize>, name: &[u8]) -> Option<usize>
+fn place_in(places: &BTreeMap<&[u8], usize>, name: &[u8]) -> Option<usize>
     ensures { result ≡ spec.place_in places.now name.now }
 {
     places.get(name).copied()
 }
 
 /// Notes the place of a name.
-fn note(
-    alloc: Global,
-    places: &mut BTreeMap<Vec<u8>, usize>,
-    name: &[u8],
+fn note<'a>(
+    places: &mut BTreeMap<&'a [u8], usize>,
+    name: &'a [u8],
     place: usize,
 ) -> Result<(), OutOfMemory>
     ensures ok { OnOk result ((w : List ℕ) → spec.place_in places.new w ≡ (if bytes_eq name.now w then Some place else spec.place_in places.old w)) }
     ensures err { OnErr result ((w : List ℕ) → spec.place_in places.new w ≡ spec.place_in places.old w) }
 {
-    places.insert(Vec::from_slice(alloc, name)?, place)?;
+    places.insert(name, place)?;
     Ok(())
 }

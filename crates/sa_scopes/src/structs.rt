@@ -17,14 +17,14 @@ use std::marker::Model;
 /// Structures in the order in which their definitions end, and for each the names of its fields, with whether they are `const`.
 /// How many elements and how many cells each has is counted once.
 #[derive(Drop)]
-pub struct Structs {
+pub struct Structs<'a> {
     defs: Items<StructDef>,
-    members: Items<Scope<bool>>,
+    members: Items<Scope<'a, bool>>,
     sizes: Items<u64>,
     cells: Items<u64>,
 }
 
-impl Model for Structs {
+impl<'a> Model for Structs<'a> {
     ghost use Rattle.sa_scopes.specs.Structures as spec;
     ghost use Rattle.std.specs.Coded.{codes};
     ghost use Rattle.sa_typed.specs.contracts.shape.Shape as shape;
@@ -43,9 +43,9 @@ impl Model for Structs {
 
 /// The fields of a structure as far as they are declared, and their names, each with whether it is `const`.
 #[derive(Drop)]
-pub struct Fields {
+pub struct Fields<'a> {
     pub defs: Items<FieldDef>,
-    pub names: Scope<bool>,
+    pub names: Scope<'a, bool>,
 }
 
 /// A field: its number, its shape, and whether it is `const`.
@@ -170,9 +170,9 @@ fn field_at(def: Option<&StructDef>, at: usize) -> Option<&FieldDef>
     }
 }
 
-impl Structs {
+impl<'a> Structs<'a> {
     /// No structures.
-    pub fn new(alloc: Global) -> Structs
+    pub fn new(alloc: Global) -> Structs<'a>
         ensures { result ≡ record { defs = []; members = [] } }
     {
         Structs {
@@ -184,9 +184,9 @@ impl Structs {
     }
 
     /// Defines another structure, and answers its number.
-    pub fn define(&mut self, name: Text, fields: Fields) -> Result<u32, OutOfMemory>
+    pub fn define(&mut self, name: Text, fields: Fields<'a>) -> Result<u32, OutOfMemory>
         ensures number { IfOk result (λ n. n ≡ length self.old.defs) }
-        ensures defined { OnOk result (self.new ≡ spec.with_struct self.old name fields) }
+        ensures defined { OnOk result (self.new ≡ spec.with_struct self.old name fields.entry) }
     {
         let number = number(self.defs.len())?;
         let Fields { defs, names } = fields;
@@ -255,7 +255,7 @@ impl Structs {
 
     /// The structures.
     pub fn into_defs(self) -> Items<StructDef>
-        ensures { result ≡ self.defs }
+        ensures { result ≡ self.entry.defs }
     {
         self.defs
     }

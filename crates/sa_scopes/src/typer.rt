@@ -62,17 +62,17 @@ pub fn least_of(faults: &[Fault]) -> Option<Fault>
 /// and inputs stand by their numbers, refusals in the order of the walk. After want of memory a part of a step may be in it, and
 /// it isn't used again.
 #[derive(Drop)]
-pub struct Typer {
-    pub names: Scope<Named>,
-    pub tags: Scope<Tagged>,
-    pub structs: Structs,
+pub struct Typer<'a> {
+    pub names: Scope<'a, Named>,
+    pub tags: Scope<'a, Tagged>,
+    pub structs: Structs<'a>,
     pub vars: Items<Var>,
     pub inputs: Items<Input>,
     pub thresholds: Items<u64>,
     pub faults: Items<Fault>,
 }
 
-impl Typer {
+impl Typer<'_> {
     /// Notes that a rule is broken at a place.
     #[tactic(auto, unfolding(crate::specs::Typing::refused))]
     pub fn refuse(&mut self, rule: u8, pos: Pos) -> Result<(), OutOfMemory>

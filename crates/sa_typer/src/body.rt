@@ -126,10 +126,10 @@ fn clock_stmt(alloc: Global, pos: Pos, before: Items<Stmt>) -> Result<Stmt, OutO
 }
 
 /// An item, which may be a clock loop.
-fn main_by(
+fn main_by<'a>(
     alloc: Global,
-    typer: &mut Typer,
-    one: &BlockItem,
+    typer: &mut Typer<'a>,
+    one: &'a BlockItem,
     found: &mut Body,
 ) -> Result<(), OutOfMemory>
     ensures { Yields (spec.main_by (spec.clock_loop one.now) one.now found.old typer.old) (given result found.new) typer.new }
@@ -146,10 +146,10 @@ fn main_by(
 
 /// An item of `main`, which is refused where the clock loop stands before it.
 #[tactic(auto, unfolding(crate::specs::Bodies::main_item))]
-fn main_item(
+fn main_item<'a>(
     alloc: Global,
-    typer: &mut Typer,
-    one: &BlockItem,
+    typer: &mut Typer<'a>,
+    one: &'a BlockItem,
     found: &mut Body,
 ) -> Result<(), OutOfMemory>
     ensures { Yields (spec.main_item one.now found.old typer.old) (given result found.new) typer.new }
@@ -159,7 +159,7 @@ fn main_item(
 }
 
 #[tactic(auto, using(sa_scopes::proofs::Loops::loops))]
-fn main_items(alloc: Global, typer: &mut Typer, all: &[BlockItem]) -> Result<Body, OutOfMemory>
+fn main_items<'a>(alloc: Global, typer: &mut Typer<'a>, all: &'a [BlockItem]) -> Result<Body, OutOfMemory>
     ensures { Yields (spec.main_items all.now spec.no_body typer.old) result typer.new }
 {
     let mut found = Body {
@@ -174,7 +174,7 @@ fn main_items(alloc: Global, typer: &mut Typer, all: &[BlockItem]) -> Result<Bod
 
 /// The block of `main`.
 #[tactic(auto, unfolding(crate::specs::Bodies::main_block, crate::specs::Statements::scoped))]
-pub fn main_block(alloc: Global, typer: &mut Typer, all: &[BlockItem]) -> Result<Body, OutOfMemory>
+pub fn main_block<'a>(alloc: Global, typer: &mut Typer<'a>, all: &'a [BlockItem]) -> Result<Body, OutOfMemory>
     ensures { Yields (spec.main_block all.now typer.old) result typer.new }
 {
     let (names, tags) = (typer.names.count(), typer.tags.count());

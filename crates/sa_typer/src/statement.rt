@@ -178,7 +178,7 @@ fn compounded(
 }
 
 /// A left side, which is neither constant nor an input.
-fn left_side(alloc: Global, typer: &mut Typer, place: &Place) -> Result<Spot, OutOfMemory>
+fn left_side<'a>(alloc: Global, typer: &mut Typer<'a>, place: &'a Place) -> Result<Spot, OutOfMemory>
     ensures { Yields (spec.left_side place.now typer.old) result typer.new }
 {
     let spot = spot(alloc, typer, place)?;
@@ -187,10 +187,10 @@ fn left_side(alloc: Global, typer: &mut Typer, place: &Place) -> Result<Spot, Ou
 }
 
 #[tactic(auto, unfolding(crate::specs::Statements::simple))]
-pub fn simple(
+pub fn simple<'a>(
     alloc: Global,
-    typer: &mut Typer,
-    simple: &sa_syntax::Simple,
+    typer: &mut Typer<'a>,
+    simple: &'a sa_syntax::Simple,
 ) -> Result<Simple, OutOfMemory>
     ensures { Yields (spec.simple simple.now typer.old) result typer.new }
 {
@@ -238,10 +238,10 @@ fn directive(typer: &mut Typer, pos: Pos, directive: &Directive) -> Result<(), O
 /// A statement, after the ones so far.
 #[cycle(statements)]
 #[tactic(auto, using(crate::proofs::StmtRows::stmt_rows))]
-fn stmt(
+fn stmt<'a>(
     alloc: Global,
-    typer: &mut Typer,
-    stmt: &sa_syntax::Stmt,
+    typer: &mut Typer<'a>,
+    stmt: &'a sa_syntax::Stmt,
     found: &mut Items<Stmt>,
 ) -> Result<(), OutOfMemory>
     ensures { Yields (spec.stmt stmt.now found.old typer.old) (given result found.new) typer.new }
@@ -273,10 +273,10 @@ fn stmt(
 /// What stands in a block, after the statements so far.
 #[cycle(statements)]
 #[tactic(auto, using(crate::proofs::StmtRows::item_rows))]
-pub fn item(
+pub fn item<'a>(
     alloc: Global,
-    typer: &mut Typer,
-    item: &BlockItem,
+    typer: &mut Typer<'a>,
+    item: &'a BlockItem,
     found: &mut Items<Stmt>,
 ) -> Result<(), OutOfMemory>
     ensures { Yields (spec.item item.now found.old typer.old) (given result found.new) typer.new }
@@ -289,7 +289,7 @@ pub fn item(
 
 #[cycle(statements)]
 #[tactic(auto, using(sa_scopes::proofs::Loops::loops))]
-fn items(alloc: Global, typer: &mut Typer, all: &[BlockItem]) -> Result<Items<Stmt>, OutOfMemory>
+fn items<'a>(alloc: Global, typer: &mut Typer<'a>, all: &'a [BlockItem]) -> Result<Items<Stmt>, OutOfMemory>
     ensures { Yields (body.items all.now [] typer.old) result typer.new }
 {
     let mut found = Items::new(alloc);
@@ -302,10 +302,10 @@ fn items(alloc: Global, typer: &mut Typer, all: &[BlockItem]) -> Result<Items<St
 /// A block by itself.
 #[cycle(statements)]
 #[tactic(auto, unfolding(crate::specs::Bodies::block, crate::specs::Statements::scoped))]
-pub fn block(
+pub fn block<'a>(
     alloc: Global,
-    typer: &mut Typer,
-    all: &[BlockItem],
+    typer: &mut Typer<'a>,
+    all: &'a [BlockItem],
 ) -> Result<Items<Stmt>, OutOfMemory>
     ensures { Yields (body.block all.now typer.old) result typer.new }
 {

@@ -30,7 +30,7 @@ use std::alloc::Global;
 // ---- items
 
 /// A type before a name at file scope, where `volatile` is out of place.
-fn plain_type(alloc: Global, typer: &mut Typer, ty: &Specifiers) -> Result<Ty, OutOfMemory>
+fn plain_type<'a>(alloc: Global, typer: &mut Typer<'a>, ty: &'a Specifiers) -> Result<Ty, OutOfMemory>
     ensures { Yields (spec.plain_type ty.now typer.old) result typer.new }
 {
     check_qualifiers(typer, false, true, ty.qualifiers.as_slice())?;
@@ -38,16 +38,16 @@ fn plain_type(alloc: Global, typer: &mut Typer, ty: &Specifiers) -> Result<Ty, O
 }
 
 #[tactic(auto, unfolding(crate::specs::Units::type_name))]
-fn type_name(
+fn type_name<'a>(
     alloc: Global,
-    typer: &mut Typer,
-    ty: &Specifiers,
-    name: &Name,
+    typer: &mut Typer<'a>,
+    ty: &'a Specifiers,
+    name: &'a Name,
 ) -> Result<(), OutOfMemory>
     ensures { Yields (spec.type_name ty.now name.now typer.old) result typer.new }
 {
     let ty = plain_type(alloc, typer, ty)?;
-    declare(alloc, typer, name, Named::Alias(ty))
+    declare(typer, name, Named::Alias(ty))
 }
 
 fn is_main(name: &Name) -> bool
@@ -67,16 +67,16 @@ fn entry(alloc: Global, name: &Name, ty: Ty, body: Body) -> Result<Entry, OutOfM
 }
 
 /// `main`, whose name wasn't visible.
-fn first_main(
+fn first_main<'a>(
     alloc: Global,
-    typer: &mut Typer,
-    name: &Name,
+    typer: &mut Typer<'a>,
+    name: &'a Name,
     ty: Ty,
-    block: &Block,
+    block: &'a Block,
 ) -> Result<Option<Entry>, OutOfMemory>
     ensures { Yields (spec.first_main name.now ty block.now typer.old) result typer.new }
 {
-    declare(alloc, typer, name, Named::Function)?;
+    declare(typer, name, Named::Function)?;
     typer.refuse_if(is_struct(ty.element), 5, name.pos)?;
     let body = main_block(alloc, typer, block.items.as_slice())?;
     Ok(Some(entry(alloc, name, ty, body)?))
@@ -84,12 +84,12 @@ fn first_main(
 
 /// `main`, after what was `main` before it.
 #[tactic(auto, unfolding(crate::specs::Units::main))]
-fn main(
+fn main<'a>(
     alloc: Global,
-    typer: &mut Typer,
-    ty: &Specifiers,
-    name: &Name,
-    block: &Block,
+    typer: &mut Typer<'a>,
+    ty: &'a Specifiers,
+    name: &'a Name,
+    block: &'a Block,
     found: Option<Entry>,
 ) -> Result<Option<Entry>, OutOfMemory>
     ensures { Yields (spec.main ty.now name.now block.now found typer.old) result typer.new }
@@ -104,10 +104,10 @@ fn main(
 
 /// An item, after what was `main` before it.
 #[tactic(auto, unfolding(crate::specs::Units::item))]
-fn item(
+fn item<'a>(
     alloc: Global,
-    typer: &mut Typer,
-    item: &Item,
+    typer: &mut Typer<'a>,
+    item: &'a Item,
     found: Option<Entry>,
 ) -> Result<Option<Entry>, OutOfMemory>
     ensures { Yields (spec.item item.now found typer.old) result typer.new }
@@ -137,7 +137,7 @@ fn item(
 }
 
 #[tactic(auto, using(sa_scopes::proofs::Loops::loops))]
-fn items(alloc: Global, typer: &mut Typer, all: &[Item]) -> Result<Option<Entry>, OutOfMemory>
+fn items<'a>(alloc: Global, typer: &mut Typer<'a>, all: &'a [Item]) -> Result<Option<Entry>, OutOfMemory>
     ensures { Yields (spec.items all.now None typer.old) result typer.new }
 {
     let mut found = None;
@@ -149,7 +149,7 @@ fn items(alloc: Global, typer: &mut Typer, all: &[Item]) -> Result<Option<Entry>
 
 // ---- the whole
 
-fn blank(alloc: Global) -> Typer
+fn blank<'a>(alloc: Global) -> Typer<'a>
     ensures { result ≡ spec.blank }
 {
     Typer {
@@ -223,7 +223,7 @@ fn function(alloc: Global, entry: Entry) -> Func
 }
 
 fn program(alloc: Global, typer: Typer, entry: Entry) -> Result<Program, OutOfMemory>
-    ensures { IfOk result (λ p. p ≡ spec.program typer entry) }
+    ensures { IfOk result (λ p. p ≡ spec.program typer.entry entry) }
 {
     let mut funcs = Items::new(alloc);
     funcs.push(function(alloc, entry))?;
@@ -247,7 +247,7 @@ fn fits(typer: &Typer, entry: &Entry) -> bool
 }
 
 fn accept(alloc: Global, typer: Typer, entry: Option<Entry>) -> Result<Program, TypeFault>
-    ensures { Tells (spec.accepted_by entry typer) result }
+    ensures { Tells (spec.accepted_by entry typer.entry) result }
 {
     match entry {
         None => Err(TypeFault::TooMany(Limit::Cells)),
@@ -285,7 +285,7 @@ fn least_refusal(typer: &Typer, entry: &Option<Entry>, end: Pos) -> Option<Fault
 
 /// The answer at the end of the text.
 fn finish(alloc: Global, typer: Typer, entry: Option<Entry>, end: Pos) -> Result<Program, TypeFault>
-    ensures { Tells (spec.unless_refused (least (spec.refusals_by end entry typer)) (spec.accepted_by entry typer)) result }
+    ensures { Tells (spec.unless_refused (least (spec.refusals_by end entry typer.entry)) (spec.accepted_by entry typer.entry)) result }
 {
     match least_refusal(&typer, &entry, end) {
         Some(fault) => Err(TypeFault::Refused(refusal(fault))),
