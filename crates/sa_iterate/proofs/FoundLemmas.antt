@@ -11,7 +11,7 @@ use Rattle.sa_operators.specs.Alarms.{noted}
 use Rattle.sa_reference.specs.Steps.{Record, Found, nothing, only, both, recorded, loop_found}
 use Rattle.sa_iterate.specs.declared.passes.LoopFacts.{LoopFacts}
 use Rattle.sa_iterate.specs.Analysis.{record_of}
-use Rattle.sa_iterate.specs.Straight.{domain, straight_found, kept, facts_from, main_loop, clock_found}
+use Rattle.sa_iterate.specs.Straight.{domain, stmt_found, kept, facts_from, main_loop, clock_found}
 
 pub both-nothing : (f : Found Flat) → both f nothing ≡ f
 both-nothing f = ap₂ (λ (a : List Alarm) (r : List (Record Flat)). record { alarms = a; records = r }) (append-nil f.alarms) (append-nil f.records)
@@ -51,14 +51,14 @@ record-added alarms old new f e =
     ap₂ (λ (a : List Alarm) (r : List (Record Flat)). record { alarms = a; records = r }) (sym (append-nil alarms)) (ap (map record_of) e ∙ map-append record_of old (f ∷ []))
 
 -- a clock loop: its record, and what is found in one more turn from the stable state
-pub loop-checked : (p : Program) (q : Pos) (body : List Stmt) (e env : Flat) (f : LoopFacts) (old with_record new : Found Flat) →
+pub loop-checked : (p : Program) (q : Pos) (body : Stmt) (e env : Flat) (f : LoopFacts) (old with_record new : Found Flat) →
     facts_from p body e ≡ record { passes = f.passes; state = Some f.state } → f.place ≡ q → env ≡ f.state →
-    with_record ≡ both old (record { alarms = []; records = record_of f ∷ [] }) → new ≡ both with_record (kept true (straight_found p body (Some env))) →
+    with_record ≡ both old (record { alarms = []; records = record_of f ∷ [] }) → new ≡ both with_record (kept true (stmt_found p body env)) →
     new ≡ both old (clock_found p q body e)
 unfolding record_of main_loop clock_found kept
 loop-checked p q body e env f old with_record new facts at same added is =
     let here : Found Flat = record { alarms = []; records = record_of f ∷ [] } in
-    let sees = straight_found p body (Some f.state) in
-    is ∙ ap (λ (s : Flat). both with_record (straight_found p body (Some s))) same ∙ ap (λ (w : Found Flat). both w sees) added ∙ both-assoc old here sees
+    let sees = stmt_found p body f.state in
+    is ∙ ap (λ (s : Flat). both with_record (stmt_found p body s)) same ∙ ap (λ (w : Found Flat). both w sees) added ∙ both-assoc old here sees
     ∙ ap (λ (q : Pos). both old (both (recorded (main_loop q) f.passes f.state) sees)) at
-    ∙ ap (λ (x : Facts Flat). both old (loop_found (domain p) (main_loop q) (λ r. straight_found p body (Some r)) x)) (sym facts)
+    ∙ ap (λ (x : Facts Flat). both old (loop_found (domain p) (main_loop q) (λ r. stmt_found p body r) x)) (sym facts)

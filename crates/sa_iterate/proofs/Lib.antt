@@ -1,4 +1,5 @@
 mod FoundLemmas
 mod PassLemmas
 mod StraightLaws
+pub mod TypedForms
 mod WalkLemmas

@@ -1,5 +1,5 @@
 -- The passes over intervals, where no state is reduced: at a stable pass, one pass on, and at the last.
-use Rattle.std.proofs.Common.{◌≡◌, ℕ, suc, ◌+◌, List, Bool, true, false, refl, sym, ap, ◌∙◌, Option, Some}
+use Rattle.std.proofs.Common.{◌≡◌, ℕ, suc, ◌+◌, Bool, true, false, refl, sym, ap, ◌∙◌, Option, Some}
 use Rattle.std.specs.Prelude.{if◌then◌else◌, nat_le}
 use Rattle.sa_typed.specs.declared.program.Program.{Program}
 use Rattle.sa_typed.specs.declared.stmt.Stmt.{Stmt}
@@ -7,7 +7,7 @@ use Rattle.sa_reference.specs.declared.flat.Flat.{Flat}
 use Rattle.sa_reference.specs.Environments.{le_of, top_of, whole_clock}
 use Rattle.sa_reference.specs.Passes.{Facts, alive_then, rested, joined, next, turned, passes_from, facts_of}
 use Rattle.sa_reference.specs.Sound.{widest}
-use Rattle.sa_iterate.specs.Straight.{domain, turn_after, facts_from}
+use Rattle.sa_iterate.specs.Straight.{domain, stmt_after, facts_from}
 
 if-same : {A : Type 0} (b : Bool) (x : A) → (if b then x else x) ≡ x
 if-same true x = refl
@@ -43,7 +43,7 @@ module _ (q : Program) (turn : Flat → Option Flat) (peak s : Flat) where
   passes-last all k p i e whole =
       sym whole ∙ ap (λ (k : ℕ). passes_from (domain q) turn peak s k p i) e ∙ ap (λ (o : Option Flat). record { passes = p; state = o }) (rested-is p i)
 
-pub passes-first : (q : Program) (body : List Stmt) (s : Flat) →
-    passes_from (domain q) (turn_after q body) (top_of q (whole_clock (widest q).max_clock)) s 31 1 s ≡ facts_from q body s
+pub passes-first : (q : Program) (body : Stmt) (s : Flat) →
+    passes_from (domain q) (stmt_after q body) (top_of q (whole_clock (widest q).max_clock)) s 31 1 s ≡ facts_from q body s
 unfolding facts_from facts_of
 passes-first q body s = refl

@@ -2,7 +2,6 @@
 -- row is the straight one.
 use Rattle.std.proofs.Common.{◌≡◌, List, [], ◌∷◌, ◌++◌, refl, ap, sym, subst, ◌∙◌, Option, Some, None, length}
 use Rattle.std.proofs.lemmas.List.Elements.{All-nil, All-cons, All-same}
-use Rattle.std.proofs.Math.Path.{fun_ext}
 use Rattle.std.specs.List.{All}
 use Rattle.std.specs.Prelude.{if◌then◌else◌, nat_le, slice_get}
 use Rattle.sa_base.specs.declared.pos.Pos.{Pos}
@@ -10,24 +9,23 @@ use Rattle.sa_typed.specs.Executions.{block_of, main_of}
 use Rattle.sa_typed.specs.WellTyped.{IsTypedSimple, IsTypedStmt, AreTypedStmts}
 use Rattle.sa_typed.specs.declared.program.Func.{Func}
 use Rattle.sa_typed.specs.declared.program.Program.{Program}
+use Rattle.sa_typed.specs.declared.stmt.LoopKind.TheVariants as kind
 use Rattle.sa_typed.specs.declared.stmt.Simple.{Simple}
 use Rattle.sa_typed.specs.declared.stmt.Stmt.{Stmt, Row_of-Stmt, end_of-Stmt, more_of-Stmt, items-the_row-Stmt, items_hidden-the_row-Stmt-0}
 use Rattle.sa_typed.specs.declared.stmt.Stmt.TheVariants as v
 use Rattle.sa_reference.specs.declared.flat.Flat.{Flat}
 use Rattle.sa_reference.specs.Assignments.{simple_of, simple_alarms}
-use Rattle.sa_reference.specs.Environments.{tick_of, top_of, whole_clock, initial_env}
-use Rattle.sa_reference.specs.Passes.{Facts, facts_of, alive_then}
+use Rattle.sa_reference.specs.Environments.{tick_of, initial_env}
 use Rattle.sa_reference.specs.Reference.{reference}
 use Rattle.sa_reference.specs.Sound.{widest}
-use Rattle.sa_reference.specs.Steps.{Found, only, both, list_of, merged, spread, after, after_all, found, found_all, found_over, loop_found, clock_turn_of, clock_facts}
+use Rattle.sa_reference.specs.Steps.{Found, nothing, only, both, list_of, merged, spread, after, after_all, found, found_all, found_over}
 use Rattle.sa_iterate.specs.Analysis.{body_in, main_body}
-use Rattle.sa_iterate.specs.Straight.{domain, stmt_after, stmt_found, next_env, next_found, straight, straight_found, turn_after, facts_from, main_loop, clock_found}
+use Rattle.sa_iterate.specs.Straight.{domain, stmt_after, stmt_found, next_env, next_found, straight, straight_found, facts_from, main_loop, clock_found}
 use Rattle.sa_iterate.proofs.FoundLemmas.{both-nothing}
 
 -- ---- rows as lists
 abbrev row_of : Stmt → (n : _) × Row_of-Stmt n
 row_of (Stmt.Block' n r) = (_, r)
-row_of (Stmt.Clock' q n r) = (_, r)
 row_of _ = (_, end_of-Stmt)
 
 module _ (p : Program) where
@@ -40,7 +38,9 @@ module _ (p : Program) where
   unfolding after stmt_after
   stmt-ends (Stmt.Simple x) e = ap list_of (sym (merged-one (simple_of p (widest p) x e)))
   stmt-ends (Stmt.Block' n all) e = ap list_of (sym (merged-one (merged (domain p) (after_all (domain p) all [] (e ∷ [])).ends)))
-  stmt-ends (Stmt.Clock' q n all) e = refl
+  stmt-ends Stmt.Wait e = ap list_of (sym (merged-one (tick_of (widest p).max_clock e)))
+  stmt-ends (Stmt.Loop' q kind.Clock None n (more_of-Stmt body end_of-Stmt) None) e = refl
+  stmt-ends _ e = refl
 
   -- which is small enough to stay apart
   small : (o : Option Flat) (other : List Flat) → (if nat_le (length (list_of o ++ [])) 16 then list_of o ++ [] else other) ≡ list_of o
@@ -75,14 +75,6 @@ module _ (p : Program) where
       ap (λ (f : Found Flat). both f (found_all (domain p) rest [] (spread (domain p) (λ e. after (domain p) s [] e) (list_of o)))) (over-one s o)
       ∙ ap (λ (es : List Flat). both (next_found p o s) (found_all (domain p) rest [] es)) (spread-one s o)
       ∙ ap (both (next_found p o s)) (row-found _ rest (next_env p o s))
-
-  row-turn : (n : _) (r : Row_of-Stmt n) → clock_turn_of (domain p) (λ e. after_all (domain p) r [] (e ∷ [])) ≡ turn_after p (items-the_row-Stmt n r)
-  unfolding turn_after
-  row-turn n r = fun_ext (λ e. ap (λ (o : Option Flat). alive_then o (tick_of (widest p).max_clock)) (row-after n r e))
-
-  row-facts : (n : _) (r : Row_of-Stmt n) (e : Flat) → clock_facts (domain p) (λ e. after_all (domain p) r [] (e ∷ [])) e ≡ facts_from p (items-the_row-Stmt n r) e
-  unfolding facts_from
-  row-facts n r e = ap (λ (turn : Flat → Option Flat). facts_of (domain p) turn (top_of p (whole_clock (widest p).max_clock)) e) (row-turn n r)
 
   row-typed : (n : _) (r : Row_of-Stmt n) → AreTypedStmts p r → All (IsTypedStmt p) (items-the_row-Stmt n r)
   unfolding IsTypedStmt
@@ -121,23 +113,21 @@ module _ (p : Program) where
       let row = row_of (v.Block all) in
       All-same (IsTypedStmt p) ss (items-the_row-Stmt row.0 row.1) (e ∙ sym (items_hidden-the_row-Stmt-0 all)) (row-typed row.0 row.1 (subst (IsTypedStmt p) is h))
 
-  pub clock-after : (q : Pos) (all : List Stmt) (e : Flat) → stmt_after p (v.Clock q all) e ≡ None
+  pub wait-after : (e : Flat) → stmt_after p v.Wait e ≡ tick_of (widest p).max_clock e
   unfolding after stmt_after
-  clock-after q all e = refl
+  wait-after e = merged-one (tick_of (widest p).max_clock e)
 
-  pub clock-found : (q : Pos) (all : List Stmt) (e : Flat) → stmt_found p (v.Clock q all) e ≡ clock_found p q all e
-  unfolding found stmt_found clock_found main_loop
-  clock-found q all e =
-      let row = row_of (v.Clock q all) in
-      ap (λ (f : Facts Flat). loop_found (domain p) (main_loop q) (λ r. found_all (domain p) row.1 [] (r ∷ [])) f) (row-facts row.0 row.1 e)
-      ∙ ap (λ (sees : Flat → Found Flat). loop_found (domain p) (main_loop q) sees (facts_from p (items-the_row-Stmt row.0 row.1) e)) (fun_ext (λ r. row-found row.0 row.1 (Some r)))
-      ∙ ap (λ (ss : List Stmt). loop_found (domain p) (main_loop q) (λ r. straight_found p ss (Some r)) (facts_from p ss e)) (items_hidden-the_row-Stmt-0 all)
+  pub wait-found : (e : Flat) → stmt_found p v.Wait e ≡ nothing
+  unfolding found stmt_found
+  wait-found e = refl
 
-  pub clock-typed : (s : Stmt) (q : Pos) (all ss : List Stmt) → s ≡ v.Clock q all → ss ≡ all → IsTypedStmt p s → All (IsTypedStmt p) ss
-  unfolding IsTypedStmt
-  clock-typed s q all ss is e h =
-      let row = row_of (v.Clock q all) in
-      All-same (IsTypedStmt p) ss (items-the_row-Stmt row.0 row.1) (e ∙ sym (items_hidden-the_row-Stmt-0 all)) (row-typed row.0 row.1 (subst (IsTypedStmt p) is h))
+  pub clock-after : (q : Pos) (body : Stmt) (e : Flat) → stmt_after p (v.Loop q kind.Clock None body None) e ≡ None
+  unfolding after stmt_after Rattle.sa_typed.specs.declared.stmt.Stmt.TheBlock.hidden-the_row-Stmt-1 denote.Hole.Carrier.hidden
+  clock-after q body e = refl
+
+  pub clock-found : (q : Pos) (body : Stmt) (e : Flat) → stmt_found p (v.Loop q kind.Clock None body None) e ≡ clock_found p q body e
+  unfolding found stmt_found clock_found main_loop facts_from stmt_after Rattle.sa_typed.specs.declared.stmt.Stmt.TheBlock.hidden-the_row-Stmt-1 denote.Hole.Carrier.hidden
+  clock-found q body e = refl
 
 -- ---- main
 pub main-block : (p : Program) → main_of p ≡ v.Block (main_body p)

@@ -8,10 +8,10 @@ use Rattle.sa_typed.specs.declared.stmt.Stmt.{Stmt}
 use Rattle.sa_typed.specs.Executions.{Loop}
 use Rattle.sa_reference.specs.declared.flat.Flat.{Flat}
 use Rattle.sa_reference.specs.Domain.{Domain}
-use Rattle.sa_reference.specs.Environments.{tick_of, top_of, whole_clock}
+use Rattle.sa_reference.specs.Environments.{top_of, whole_clock}
 use Rattle.sa_reference.specs.Fair.{IsFair}
 use Rattle.sa_reference.specs.Intervals.{intervals}
-use Rattle.sa_reference.specs.Passes.{Facts, facts_of, alive_then}
+use Rattle.sa_reference.specs.Passes.{Facts, facts_of}
 use Rattle.sa_reference.specs.Sound.{widest}
 use Rattle.sa_reference.specs.Steps.{Found, nothing, both, merged, after, found, loop_found}
 
@@ -51,18 +51,14 @@ unfoldable pub kept : Bool → Found Flat → Found Flat
 kept true f = f
 kept false f = nothing
 
--- one turn of a clock loop
-unfoldable pub turn_after : Program → List Stmt → Flat → Option Flat
-turn_after p body e = alive_then (straight p body (Some e)) (tick_of (widest p).max_clock)
-
 -- the clock loop from its entry
-unfoldable pub facts_from : Program → List Stmt → Flat → Facts Flat
-facts_from p body e = facts_of (domain p) (turn_after p body) (top_of p (whole_clock (widest p).max_clock)) e
+unfoldable pub facts_from : Program → Stmt → Flat → Facts Flat
+facts_from p body e = facts_of (domain p) (stmt_after p body) (top_of p (whole_clock (widest p).max_clock)) e
 
 -- a loop of main
 unfoldable pub main_loop : Pos → Loop
 main_loop q = record { path = []; place = q }
 
 -- what the clock loop finds from its entry
-unfoldable pub clock_found : Program → Pos → List Stmt → Flat → Found Flat
-clock_found p q body e = loop_found (domain p) (main_loop q) (λ r. straight_found p body (Some r)) (facts_from p body e)
+unfoldable pub clock_found : Program → Pos → Stmt → Flat → Found Flat
+clock_found p q body e = loop_found (domain p) (main_loop q) (λ r. stmt_found p body r) (facts_from p body e)

@@ -15,7 +15,7 @@ ghost use Rattle.sa_reference.specs.Sound.{widest};
 ghost use Rattle.sa_reference.specs.Steps.{nothing, both};
 ghost use Rattle.sa_cells.specs.Grounds.{IsGround};
 ghost use Rattle.sa_iterate.specs.Analysis.{found_by, main_body};
-ghost use Rattle.sa_iterate.specs.Straight.{domain, IsFairIn, stmt_after, stmt_found, straight, straight_found, kept, turn_after, facts_from, clock_found};
+ghost use Rattle.sa_iterate.specs.Straight.{domain, IsFairIn, stmt_after, stmt_found, straight, straight_found, kept, facts_from, clock_found};
 
 use crate::OutOfMemory;
 use sa_base::{Alarm, Pos};
@@ -111,12 +111,16 @@ fn step(
             &mut found.alarms,
         ),
         Stmt::Block(all) => walk(alloc, program, ground, all.as_slice(), env, checking, found),
-        Stmt::Clock(place, body) => {
+        Stmt::Wait => Ok(tick(program, env, LAST_CLOCK)),
+        // the clock loop, since typing gives no other loop yet
+        Stmt::Loop(place, _, _, body, _) => {
             if checking {
-                check_loop(alloc, program, ground, *place, body.as_slice(), env, found)?;
+                check_loop(alloc, program, ground, *place, body.get(), env, found)?;
             }
             Ok(false)
         }
+        // and no other form
+        _ => Ok(true),
     }
 }
 
@@ -147,50 +151,27 @@ fn walk(
     Ok(true)
 }
 
-/// One turn of the clock loop in iteration mode: the statements, and then the wait. False where no turn ends.
-#[cycle(walk)]
-fn turn(
-    alloc: Global,
-    program: &Program,
-    ground: &Ground,
-    body: &[Stmt],
-    env: &mut Flat,
-) -> Result<bool, OutOfMemory>
-    requires ground { IsGround program.now ground.now }
-    requires typed { IsTyped program.now }
-    requires body { All (IsTypedStmt program.now) body.now }
-    requires fair { IsFairIn program.now env.old }
-    ensures env { IfOk result (λ alive. turn_after program.now body.now env.old ≡ alive_env alive env.new) }
-    ensures fair { IsFairIn program.now env.new }
-{
-    let mut none = nothing(alloc);
-    if walk(alloc, program, ground, body, env, false, &mut none)? {
-        Ok(tick(program, env, LAST_CLOCK))
-    } else {
-        Ok(false)
-    }
-}
-
 /// The merge of the entry with the end of a turn from this state.
 #[cycle(walk)]
 fn turned(
     alloc: Global,
     program: &Program,
     ground: &Ground,
-    body: &[Stmt],
+    body: &Stmt,
     entry: &Flat,
     state: &Flat,
 ) -> Result<Flat, OutOfMemory>
     requires ground { IsGround program.now ground.now }
     requires typed { IsTyped program.now }
-    requires body { All (IsTypedStmt program.now) body.now }
+    requires body { IsTypedStmt program.now body.now }
     requires entry { IsFairIn program.now entry.now }
     requires state { IsFairIn program.now state.now }
-    ensures value { IfOk result (λ j. j ≡ joined (domain program.now) entry.now (turn_after program.now body.now state.now)) }
+    ensures value { IfOk result (λ j. j ≡ joined (domain program.now) entry.now (stmt_after program.now body.now state.now)) }
     ensures fair { IfOk result (λ j. IsFairIn program.now j) }
 {
     let mut end = copy(alloc, state)?;
-    if turn(alloc, program, ground, body, &mut end)? {
+    let mut none = nothing(alloc);
+    if step(alloc, program, ground, body, &mut end, false, &mut none)? {
         merge(alloc, program, entry, &end, LAST_CLOCK)
     } else {
         copy(alloc, entry)
@@ -204,12 +185,12 @@ fn clock_facts(
     program: &Program,
     ground: &Ground,
     place: Pos,
-    body: &[Stmt],
+    body: &Stmt,
     entry: &Flat,
 ) -> Result<LoopFacts, OutOfMemory>
     requires ground { IsGround program.now ground.now }
     requires typed { IsTyped program.now }
-    requires body { All (IsTypedStmt program.now) body.now }
+    requires body { IsTypedStmt program.now body.now }
     requires entry { IsFairIn program.now entry.now }
     ensures value { IfOk result (λ f. facts_from program.now body.now entry.now ≡ record { passes = f.passes; state = Some f.state }) }
     ensures place { IfOk result (λ f. f.place ≡ place) }
@@ -242,20 +223,20 @@ fn check_loop(
     program: &Program,
     ground: &Ground,
     place: Pos,
-    body: &[Stmt],
+    body: &Stmt,
     entry: &Flat,
     found: &mut Analysis,
 ) -> Result<(), OutOfMemory>
     requires ground { IsGround program.now ground.now }
     requires typed { IsTyped program.now }
-    requires body { All (IsTypedStmt program.now) body.now }
+    requires body { IsTypedStmt program.now body.now }
     requires entry { IsFairIn program.now entry.now }
     ensures { OnOk result (found_by found.new ≡ both (found_by found.old) (clock_found program.now place body.now entry.now)) }
 {
     let facts = clock_facts(alloc, program, ground, place, body, entry)?;
     let mut env = copy(alloc, &facts.state)?;
     found.loops.push(facts)?;
-    walk(alloc, program, ground, body, &mut env, true, found)?;
+    step(alloc, program, ground, body, &mut env, true, found)?;
     Ok(())
 }
 

@@ -1,28 +1,25 @@
 -- What an access leads to, and the cells that it names.
 use Rattle.std.proofs.lemmas.Bool.Decides.{nat_tests}
-use Rattle.std.proofs.Common.{◌≡◌, ℕ, zero, suc, ◌+◌, ℤ, pos, Bool, true, false, ◌&&◌, List, [], ◌∷◌, ◌++◌, refl, sym, ap, subst, ◌∙◌, arith, Option, Some, None, inl, inr}
-use Rattle.std.specs.Prelude.{if◌then◌else◌, IsTrue, ◌==◌, slice_get, option_map}
+use Rattle.std.proofs.Common.{◌≡◌, ℕ, zero, suc, ◌+◌, ℤ, true, false, ◌&&◌, List, [], ◌∷◌, refl, sym, ap, subst, ◌∙◌, arith, Option, Some, None, inl, inr}
+use Rattle.std.specs.Prelude.{if◌then◌else◌, ◌==◌, slice_get, option_map}
 use Rattle.sa_base.specs.declared.num.Num.{Num}
-use Rattle.sa_base.specs.declared.alarm.Alarm.{Alarm}
-use Rattle.sa_interval.specs.Span.{Span, Within}
-use Rattle.sa_typed.specs.Layouts.{Layout, leaf, layout_of}
-use Rattle.sa_typed.specs.Evaluation.{Setting, Value, Gives, Stops, Here, Store, then_value, place_of, steps_value, read_place}
+use Rattle.sa_typed.specs.Layouts.{leaf, layout_of}
+use Rattle.sa_typed.specs.Evaluation.{Setting, Gives, Here, Store, place_of, steps_value, read_place}
 use Rattle.sa_typed.specs.Cells.{Cell, cells, covers, names}
 use Rattle.sa_typed.specs.WellTyped.{IsRead}
-use Rattle.sa_typed.specs.declared.expr.Expr.{Expr, Number, Read', Input, Prefix', Cast', Chain', end_of-Expr, more_of-Expr, Row_of-Step}
+use Rattle.sa_typed.specs.declared.expr.Expr.{Expr, Number, Read', Input, Prefix', Cast', Chain', And', Or', Choice'}
 use Rattle.sa_typed.specs.declared.shape.Part.{Part}
 use Rattle.sa_typed.specs.declared.program.Place.{Place}
 use Rattle.sa_typed.specs.declared.program.Program.{Program}
 use Rattle.sa_reference.specs.declared.flat.Flat.{Flat}
 use Rattle.sa_reference.specs.declared.reach.Reach.{Reach}
-use Rattle.sa_reference.specs.Passes.{alive_then}
 use Rattle.sa_operators.specs.Operators.{IsIn}
 use Rattle.sa_reference.specs.Environments.{AllHold}
 use Rattle.sa_reference.specs.Values.{named, named_from, reaches, reaches_of, read_cells, alarms_of, steps_alarms, joined, cell_span}
 use Rattle.sa_reference.specs.Assignments.{read_of}
 use Rattle.sa_reference.specs.Fair.{AreIn}
 use Rattle.sa_reference.specs.Sound.{IsAmong, AliveAnd, IsWithin}
-use Rattle.sa_reference.proofs.Laws.{IfAlive, Covers}
+use Rattle.sa_reference.proofs.Laws.{IfAlive, Covers, main_place, main_here}
 use Rattle.sa_reference.proofs.SpanLaws.{and_left, and_right, both_true}
 use Rattle.sa_reference.proofs.CellLaws.{AnyOf, AllOf, IsAt, Matches, parts_layout, are_reached, place_cell, reaches_layout, names_it, Tail, read_within}
 use Rattle.sa_reference.proofs.ValueLaws.{OperatorFacts, InSpan, StepsTaken, then_covers, steps_known, reach_follows, named_num, read_stays}
@@ -83,10 +80,10 @@ number_is : (k i : ℕ) → (k == i) ≡ true → k ≡ i
 number_is k i h = grind (arith, nat_tests)
 
 -- the cells that an access names, where it leads to an element
-pub named_all : (p : Program) (here : Here) (v : ℕ) (parts : List Part) (rs : List Reach) (num : Num) → Matches rs parts → parts_layout (Some (layout_of p v)) parts ≡ Some (leaf num) →
-    NamesAll (cells p) (place_of here v parts) (named p v rs)
+pub named_all : (p : Program) (v : ℕ) (parts : List Part) (rs : List Reach) (num : Num) → Matches rs parts → parts_layout (Some (layout_of p v)) parts ≡ Some (leaf num) →
+    NamesAll (cells p) (main_place v parts) (named p v rs)
 unfolding named
-named_all p here v parts rs num m l = record { each = each; some = some }
+named_all p v parts rs num m l = record { each = each; some = some }
   where
     a : Place
     a = record { path = []; var = v; parts = parts }
@@ -101,9 +98,9 @@ named_all p here v parts rs num m l = record { each = each; some = some }
     some = let x = any_at (IsAt parts v) (cells p) (place_cell p v parts num l) in (x.0, x.1, x.2, names_it x.1 v parts x.3)
 
 -- a variable alone
-pub whole_named : (p : Program) (here : Here) (v : ℕ) (num : Num) → layout_of p v ≡ leaf num → NamesAll (cells p) (place_of here v []) (named p v [])
+pub whole_named : (p : Program) (v : ℕ) (num : Num) → layout_of p v ≡ leaf num → NamesAll (cells p) (main_place v []) (named p v [])
 unfolding Matches parts_layout
-whole_named p here v num l = named_all p here v [] [] num tt (ap Some l)
+whole_named p v num l = named_all p v [] [] num tt (ap Some l)
 
 module _ (p : Program) (w : Setting) (F : OperatorFacts) (within : IsWithin p w) (env : Flat) (fair : AreIn (cells p) env.cells) where
   -- what is known of the cells of an access to an element of this type
@@ -133,12 +130,18 @@ module _ (p : Program) (w : Setting) (F : OperatorFacts) (within : IsWithin p w)
   cells_known (Prefix' op q k n a) num t = absurd t
   cells_known (Cast' q k n a) num t = absurd t
   cells_known (Chain' n a m ls) num t = absurd t
+  cells_known (And' n a m rest) num t = absurd t
+  cells_known (Or' n a m rest) num t = absurd t
+  cells_known (Choice' n a m b l c k) num t = absurd t
 
   pub whole_of : (v : ℕ) (num : Num) → layout_of p v ≡ leaf num → AreOf num (cells p) (named p v [])
   unfolding reaches_layout
   whole_of v num l = named_of v [] num (ap Some l)
 
-module _ (p : Program) (w : Setting) (F : OperatorFacts) (within : IsWithin p w) (here : Here) (store : Store) (env : Flat) (fair : AreIn (cells p) env.cells) (holds : AllHold (cells p) env.cells store) where
+module _ (p : Program) (w : Setting) (F : OperatorFacts) (within : IsWithin p w) (time : ℤ) (store : Store) (env : Flat) (fair : AreIn (cells p) env.cells) (holds : AllHold (cells p) env.cells store) where
+  abbrev here : Here
+  here = main_here time
+
   -- an element, all of whose cells an access names, and what is read of them
   pub record Led (r : Expr) (a : Place) : Type 0 where
     pub named : AliveAnd (λ ks. NamesAll (cells p) a ks) (read_cells p w env r)
@@ -155,15 +158,15 @@ module _ (p : Program) (w : Setting) (F : OperatorFacts) (within : IsWithin p w)
   pub led : (r : Expr) (num : Num) → IsRead p (leaf num) r → (tape : List ℤ) → Covers (Led r) (alarms_of p w env r) (read_place w here store r tape)
   unfolding read_place read_cells alarms_of
   led (Read' v n steps k) num t tape =
-      then_covers (StepsTaken p w F within here store env fair holds steps (layout_of p v) (leaf num)) (Led (Read' v n steps k)) (steps_alarms p w env steps) [] (steps_alarms p w env steps)
+      then_covers (StepsTaken p w F within time store env fair holds steps (layout_of p v) (leaf num)) (Led (Read' v n steps k)) (steps_alarms p w env steps) [] (steps_alarms p w env steps)
       (steps_value w here store steps tape) (λ parts tape. Gives (place_of here v parts) tape)
-      (steps_known p w F within here store env fair holds steps (layout_of p v) (leaf num) t.0 t.1 tape) (λ a m. m) (λ a m. absurd m)
+      (steps_known p w F within time store env fair holds steps (layout_of p v) (leaf num) t.0 t.1 tape) (λ a m. m) (λ a m. absurd m)
       (λ parts tape s. record { named = all_named (reaches_of p w env steps) parts s.0 s.1; reads = all_read (reaches_of p w env steps) parts s.0 s.1 })
     where
       all_named : (o : Option (List Reach)) (parts : List Part) → AliveAnd (λ rs. Matches rs parts) o → parts_layout (Some (layout_of p v)) parts ≡ Some (leaf num) →
           AliveAnd (λ ks. NamesAll (cells p) (place_of here v parts) ks) (option_map (named p v) o)
       all_named None parts m l = absurd m
-      all_named (Some rs) parts m l = named_all p here v parts rs num m l
+      all_named (Some rs) parts m l = named_all p v parts rs num m l
 
       all_read : (o : Option (List Reach)) (parts : List Part) → AliveAnd (λ rs. Matches rs parts) o → parts_layout (Some (layout_of p v)) parts ≡ Some (leaf num) →
           InSpan (read_of env (option_map (named p v) o)) (store (place_of here v parts))
@@ -174,3 +177,6 @@ module _ (p : Program) (w : Setting) (F : OperatorFacts) (within : IsWithin p w)
   led (Prefix' op q k n a) num t tape = absurd t
   led (Cast' q k n a) num t tape = absurd t
   led (Chain' n a m ls) num t tape = absurd t
+  led (And' n a m rest) num t tape = absurd t
+  led (Or' n a m rest) num t tape = absurd t
+  led (Choice' n a m b l c k) num t tape = absurd t

@@ -1,14 +1,13 @@
 -- A structure that is copied: each cell of the one side holds what the cell in the same place of the other side held.
 use Rattle.std.proofs.lemmas.Bool.Decides.{nat_tests}
-use Rattle.std.proofs.Common.{◌≡◌, ℕ, zero, suc, ◌+◌, ◌<◌, ◌≤◌, ℤ, pos, Bool, true, false, ◌&&◌, List, [], ◌∷◌, ◌++◌, length, refl, sym, ap, subst, ◌∙◌, arith, Option, Some, None, inl, inr, append-nil}
-use Rattle.std.specs.Prelude.{if◌then◌else◌, IsTrue, ◌==◌, ◌||◌, nat_lt, nat_le, slice_get, option_map}
+use Rattle.std.proofs.Common.{◌≡◌, ℕ, zero, suc, ◌+◌, ◌<◌, ◌≤◌, ℤ, Bool, true, false, ◌&&◌, List, [], ◌∷◌, ◌++◌, length, refl, sym, ap, subst, ◌∙◌, arith, Option, Some, None, inl, inr, append-nil}
+use Rattle.std.specs.Prelude.{if◌then◌else◌, ◌==◌, ◌||◌, nat_lt, nat_le, slice_get}
 use Rattle.sa_base.specs.declared.num.Num.{Num}
 use Rattle.sa_base.specs.declared.pos.Pos.{Pos}
-use Rattle.sa_base.specs.declared.alarm.Alarm.{Alarm}
 use Rattle.sa_interval.specs.Span.{Span, Within}
-use Rattle.sa_interval.specs.Rows.{single, join_of}
-use Rattle.sa_typed.specs.Layouts.{Layout, Layouts, leaf, row, fields, no_field, step_into, nth_field, layout_of, var_layout}
-use Rattle.sa_typed.specs.Evaluation.{Setting, Value, Gives, Stops, Here, Store, then_value, place_of, steps_value, read_place}
+use Rattle.sa_interval.specs.Rows.{join_of}
+use Rattle.sa_typed.specs.Layouts.{Layout, leaf, row, fields, no_field, step_into, layout_of, var_layout}
+use Rattle.sa_typed.specs.Evaluation.{Store}
 use Rattle.sa_typed.specs.Executions.{same_path, same_part, same_var, after_parts, copied_from}
 use Rattle.sa_typed.specs.Executions as run
 use Rattle.sa_typed.specs.Cells.{Cell, Inner, one, all, of, inner_cells, cell_of, cells_of, cells_at, cells, covers_step, covers, names, is_root, is_all, is_starred, is_global, is_static, is_local, most_elements}
@@ -28,6 +27,7 @@ use Rattle.sa_reference.specs.Assignments.{starred_at, starred_cell, copied}
 use Rattle.sa_reference.specs.Sound.{IsAmong}
 use Rattle.sa_reference.proofs.SpanLaws.{and_left, and_right, both_true, join_left, join_right, join_in}
 use Rattle.sa_reference.proofs.CellLaws.{parts_layout, none_is, are_reached}
+use Rattle.sa_reference.proofs.Laws.{main_place}
 use Rattle.sa_reference.proofs.PointLaws.{Points, HoldsOf, InNum, put_in, put_long, put_there, put_else, part_is, one_part}
 use Rattle.sa_reference.proofs.AccessLaws.{named_has}
 use Rattle.sa_reference.proofs.FixedLaws.{Exactly, exact_matches, taken, prefixed_by, step_to, steps_to, within, cells_below}
@@ -290,13 +290,13 @@ changed P Q cs k s ss long new j c e old keep =
       | false ↦ λ f. subst (λ (t : Span). Q c t) (sym (put_else j k s ss f)) (keep c (cell_span ss j) (old f) f)
     ] refl
 
-module _ (p : Program) (here : Here) (v u : ℕ) (rs qs : List Reach) (ps ts : List Part) (l : Layout) (first : Exactly rs ps) (second : Exactly qs ts)
+module _ (p : Program) (v u : ℕ) (rs qs : List Reach) (ps ts : List Part) (l : Layout) (first : Exactly rs ps) (second : Exactly qs ts)
     (leads : parts_layout (Some (layout_of p v)) ps ≡ Some l) (from : parts_layout (Some (layout_of p u)) ts ≡ Some l) (store : Store) (old : List Span) (holds : Points (HoldsOf store) (cells p) old) where
   abbrev pub to : Place
-  to = place_of here v ps
+  to = main_place v ps
 
   abbrev pub new : Store
-  new = run.copied to (place_of here u ts) store
+  new = run.copied to (main_place u ts) store
 
   abbrev pre : List cell.Step
   pre = steps_to (layout_of p v) ps

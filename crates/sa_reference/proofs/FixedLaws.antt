@@ -1,23 +1,24 @@
 -- Accesses whose indices are all constant lead to one place, and the cells that they name stand in the order of the cells of
 -- what they lead to.
 use Rattle.std.proofs.lemmas.Bool.Decides.{nat_tests}
-use Rattle.std.proofs.Common.{◌≡◌, ℕ, zero, suc, ◌+◌, ◌<◌, ◌≤◌, ℤ, pos, negsuc, Bool, true, false, ◌&&◌, List, [], ◌∷◌, ◌++◌, refl, sym, ap, subst, ◌∙◌, arith, Option, Some, None, inl, inr, append-nil}
-use Rattle.std.specs.Prelude.{if◌then◌else◌, IsTrue, ◌==◌, nat_lt, nat_le, slice_get, option_map, unsigned_abs, Result, Ok, Err}
+use Rattle.std.proofs.Common.{◌≡◌, ℕ, zero, suc, ◌+◌, ◌<◌, ◌≤◌, ℤ, pos, Bool, true, false, ◌&&◌, List, [], ◌∷◌, ◌++◌, refl, sym, ap, subst, ◌∙◌, arith, Option, Some, None, append-nil}
+use Rattle.std.specs.Prelude.{if◌then◌else◌, ◌==◌, nat_lt, nat_le, option_map, unsigned_abs, Result, Ok, Err}
 use Rattle.std.specs.Int.RustNames.{int_le, int_lt}
-use Rattle.std.proofs.lemmas.Int.{ints, clamps}
+use Rattle.std.proofs.lemmas.Int.{ints}
 use Rattle.sa_base.specs.declared.pos.Pos.{Pos}
 use Rattle.sa_base.specs.declared.alarm.Kind.{Kind}
 use Rattle.sa_base.specs.declared.alarm.Kind.TheVariants.{Index}
 use Rattle.sa_interval.specs.Span.{Span, Within}
 use Rattle.sa_interval.specs.Rows.{single}
-use Rattle.sa_typed.specs.Arithmetic.{operate, prefixed, converted}
+use Rattle.sa_base.specs.declared.num.Num.{Num}
+use Rattle.sa_typed.specs.Arithmetic.{operate, prefixed, converted, as_num}
 use Rattle.sa_typed.specs.Layouts.{Layout, Layouts, leaf, row, fields, no_field, field, step_into, nth_field}
-use Rattle.sa_typed.specs.Evaluation.{Setting, Value, Gives, Stops, Error, Here, Store, then_value, given, checked_index, eval, links_value, steps_value, step_value}
-use Rattle.sa_typed.specs.Constants.{is_constant, are_constant, constant_value, constant_links, then_ok, element_of, fixed_index, is_fixed}
+use Rattle.sa_typed.specs.Evaluation.{Setting, Value, Gives, Stops, Error, Here, Store, then_value, given, checked_index, is_zero, and_then, or_else, eval, and_value, or_value, links_value, steps_value, step_value}
+use Rattle.sa_typed.specs.Constants.{is_constant, all_are_constant, are_constant, constant_value, constant_ands, constant_ors, constant_links, then_ok, and_ok, or_ok, chosen_ok, element_of, fixed_index, is_fixed}
 use Rattle.sa_typed.specs.WellTyped.{are_fixed}
 use Rattle.sa_typed.specs.Cells.{Inner, one, all, of, behind, all_behind, each_behind, inner_cells, field_cells, most_elements}
 use Rattle.sa_typed.specs.Cells as cell
-use Rattle.sa_typed.specs.declared.expr.Expr.{Expr, Number, Read', Input, Prefix', Cast', Chain', end_of-Expr, more_of-Expr, Row_of-Link, end_of-Link, more_of-Link, Row_of-Step, end_of-Step, more_of-Step}
+use Rattle.sa_typed.specs.declared.expr.Expr.{Expr, Number, Read', Input, Prefix', Cast', Chain', And', Or', Choice', end_of-Expr, more_of-Expr, Row_of-Expr, Row_of-Link, end_of-Link, more_of-Link, Row_of-Step, end_of-Step, more_of-Step}
 use Rattle.sa_typed.specs.declared.expr.Step.{Step, At', Field}
 use Rattle.sa_typed.specs.declared.shape.Part.{Part}
 use Rattle.sa_typed.specs.declared.shape.Part.TheVariants as part
@@ -26,7 +27,7 @@ use Rattle.sa_reference.specs.declared.reach.Reach.TheVariants as reach
 use Rattle.sa_reference.specs.Passes.{alive_then}
 use Rattle.sa_reference.specs.Values.{reaches_step, reaches, fixed_reach, fixed_reaches}
 use Rattle.sa_reference.specs.Sound.{AliveAnd}
-use Rattle.sa_reference.proofs.SpanLaws.{and_left, and_right, both_true, single_within}
+use Rattle.sa_reference.proofs.SpanLaws.{and_left, and_right, single_within}
 use Rattle.sa_reference.proofs.CellLaws.{parts_layout, none_is, Matches}
 
 -- ---- constant expressions have one value
@@ -53,6 +54,29 @@ two_agree : (r s : Result ℤ Kind) (v : Value ℤ) (w : List ℤ → Value ℤ)
 two_agree r s (Gives z tape) w f p h k = rw h (then_agrees s (w tape) (f z) p (k tape))
 two_agree r s (Stops e) w f p h k = tt
 
+if_agrees : (b : Bool) (r s : Result ℤ Kind) (v w : Value ℤ) → Agrees r v → Agrees s w → Agrees (if b then r else s) (if b then v else w)
+if_agrees true r s v w h k = h
+if_agrees false r s v w h k = k
+
+-- the right part of `&&` or `||` where it counts
+and_agrees : (r s : Result ℤ Kind) (v : Value ℤ) (go : List ℤ → Value ℤ) → Agrees r v → ((tape : List ℤ) → Agrees s (go tape)) → Agrees (and_ok r s) (and_then v go)
+and_agrees r s (Gives z tape) go h k = rw h (if_agrees (is_zero z) (Ok (pos 0)) s (Gives (pos 0) tape) (go tape) refl (k tape))
+and_agrees r s (Stops e) go h k = tt
+
+or_agrees : (r s : Result ℤ Kind) (v : Value ℤ) (go : List ℤ → Value ℤ) → Agrees r v → ((tape : List ℤ) → Agrees s (go tape)) → Agrees (or_ok r s) (or_else v go)
+or_agrees r s (Gives z tape) go h k = rw h (if_agrees (is_zero z) s (Ok (pos 1)) (go tape) (Gives (pos 1) tape) (k tape) refl)
+or_agrees r s (Stops e) go h k = tt
+
+choice_agrees : (num : Num) (r first second : Result ℤ Kind) (v : Value ℤ) (f s : List ℤ → Value ℤ) → Agrees r v → ((tape : List ℤ) → Agrees first (f tape)) → ((tape : List ℤ) → Agrees second (s tape)) →
+    Agrees (chosen_ok num r first second) (then_value v (λ x tape. then_value (if is_zero x then s tape else f tape) (λ y tape. Gives (as_num num y) tape)))
+choice_agrees num r first second (Gives z tape) f s h k l =
+    rw h (last _ _ (if_agrees (is_zero z) second first (s tape) (f tape) (l tape) (k tape)))
+  where
+    last : (r : Result ℤ Kind) (v : Value ℤ) → Agrees r v → Agrees (then_ok r (λ z. Ok (as_num num z))) (then_value v (λ y tape. Gives (as_num num y) tape))
+    last r (Gives y tape) h = rw h refl
+    last r (Stops e) h = tt
+choice_agrees num r first second (Stops e) f s h k l = tt
+
 -- the step that is taken is this one
 abbrev pub IsExactly : Reach → Part → Type 0
 IsExactly (reach.At s) (part.At i) = s ≡ single (pos i)
@@ -72,6 +96,27 @@ module _ (w : Setting) (here : Here) (store : Store) where
     agrees (Cast' p num n (more_of-Expr a end_of-Expr)) h tape = then_agrees (constant_value a) (eval w here store a tape) (converted num) p (agrees a h tape)
     agrees (Chain' n (more_of-Expr a end_of-Expr) m ls) h tape =
         links_agree ls (and_right (is_constant a) (are_constant ls) h) (constant_value a) (eval w here store a tape) (agrees a (and_left (is_constant a) (are_constant ls) h) tape)
+    agrees (And' n (more_of-Expr a end_of-Expr) m rest) h tape =
+        ands_agree rest (and_right (is_constant a) (all_are_constant rest) h) (constant_value a) (eval w here store a tape) (agrees a (and_left (is_constant a) (all_are_constant rest) h) tape)
+    agrees (Or' n (more_of-Expr a end_of-Expr) m rest) h tape =
+        ors_agree rest (and_right (is_constant a) (all_are_constant rest) h) (constant_value a) (eval w here store a tape) (agrees a (and_left (is_constant a) (all_are_constant rest) h) tape)
+    agrees (Choice' n (more_of-Expr a end_of-Expr) m (more_of-Expr b end_of-Expr) l (more_of-Expr c end_of-Expr) num) h tape =
+        let k = and_right (is_constant a) (is_constant b && is_constant c) h in
+        choice_agrees num (constant_value a) (constant_value b) (constant_value c) (eval w here store a tape) (λ tape. eval w here store b tape) (λ tape. eval w here store c tape)
+        (agrees a (and_left (is_constant a) (is_constant b && is_constant c) h) tape)
+        (λ tape. agrees b (and_left (is_constant b) (is_constant c) k) tape) (λ tape. agrees c (and_right (is_constant b) (is_constant c) k) tape)
+
+    ands_agree : {n : _} (rest : Row_of-Expr n) → all_are_constant rest ≡ true → (r : Result ℤ Kind) (v : Value ℤ) → Agrees r v → Agrees (constant_ands rest r) (and_value w here store rest v)
+    ands_agree end_of-Expr h r v a = and_agrees r (Ok (pos 1)) v (λ tape. Gives (pos 1) tape) a (λ tape. refl)
+    ands_agree (more_of-Expr b rest) h r v a =
+        and_agrees r (constant_ands rest (constant_value b)) v (λ tape. and_value w here store rest (eval w here store b tape)) a
+        (λ tape. ands_agree rest (and_right (is_constant b) (all_are_constant rest) h) (constant_value b) (eval w here store b tape) (agrees b (and_left (is_constant b) (all_are_constant rest) h) tape))
+
+    ors_agree : {n : _} (rest : Row_of-Expr n) → all_are_constant rest ≡ true → (r : Result ℤ Kind) (v : Value ℤ) → Agrees r v → Agrees (constant_ors rest r) (or_value w here store rest v)
+    ors_agree end_of-Expr h r v a = or_agrees r (Ok (pos 0)) v (λ tape. Gives (pos 0) tape) a (λ tape. refl)
+    ors_agree (more_of-Expr b rest) h r v a =
+        or_agrees r (constant_ors rest (constant_value b)) v (λ tape. or_value w here store rest (eval w here store b tape)) a
+        (λ tape. ors_agree rest (and_right (is_constant b) (all_are_constant rest) h) (constant_value b) (eval w here store b tape) (agrees b (and_left (is_constant b) (all_are_constant rest) h) tape))
 
     links_agree : {n : _} (ls : Row_of-Link n) → are_constant ls ≡ true → (r : Result ℤ Kind) (v : Value ℤ) → Agrees r v → Agrees (constant_links ls r) (links_value w here store ls v)
     links_agree end_of-Link h r v a = a

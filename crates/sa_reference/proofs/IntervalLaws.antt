@@ -1,17 +1,20 @@
 -- Intervals and a clock owe nothing to the laws of a domain.
-use Rattle.std.proofs.Common.{◌≡◌, ℕ, ◌^◌, ℤ, pos, ◌≤ℤ◌, arith}
+use Rattle.std.proofs.Common.{ℕ, ◌≤ℤ◌, sym, subst, arith}
 use Rattle.std.proofs.lemmas.Int.{ints}
 use Rattle.sa_interval.specs.Span.{high_limit}
 use Rattle.sa_typed.specs.Evaluation.{Setting}
+use Rattle.sa_typed.specs.Executions.{simple_value}
 use Rattle.sa_typed.specs.WellTyped.{IsTyped}
+use Rattle.sa_typed.specs.declared.program.Place.{Place}
 use Rattle.sa_typed.specs.declared.program.Program.{Program}
 use Rattle.sa_reference.specs.Intervals.{intervals}
+use Rattle.sa_reference.specs.Assignments.{simple_of, simple_alarms}
 use Rattle.sa_reference.specs.Fair.{IsFair}
 use Rattle.sa_reference.specs.Sound.{IsWithin}
-use Rattle.sa_reference.proofs.Laws.{Laws}
+use Rattle.sa_reference.proofs.Laws.{Laws, Covers, main_base}
 use Rattle.sa_reference.proofs.EnvLaws.{tick_holds, le_holds, tick_fair, merge_fair, widen_fair, top_fair, merge_holds_left, merge_holds_right, all_below_top}
 use Rattle.sa_reference.proofs.ValueLaws.{OperatorFacts}
-use Rattle.sa_reference.proofs.AssignLaws.{begin_holds, begin_fair}
+use Rattle.sa_reference.proofs.AssignLaws.{HoldsAfter, begin_holds, begin_fair}
 use Rattle.sa_reference.proofs.SimpleLaws.{simple_sound, simple_keeps}
 
 pub interval_laws : (p : Program) (w : Setting) → OperatorFacts → IsTyped p → IsWithin p w → Laws p w (intervals p w)
@@ -21,7 +24,9 @@ interval_laws p w F typed within =
     let big : m ≤ℤ high_limit = omega (arith, ints, last) in
     record {
       Under = IsFair p m;
-      simple_sound = λ s env path store time tape t u h. simple_sound p w F within (record { path = path; clock = time }) store time env u.cells h s tape t;
+      simple_sound = λ s env store time tape t u h.
+          subst (λ (base : ℕ → Place). Covers (λ st. HoldsAfter p time (simple_of p w s env) st) (simple_alarms p w s env) (simple_value p w (record { base = base; clock = time }) s store tape))
+          (sym (main_base p)) (simple_sound p w F within store time env u.cells h s tape t);
       tick_sound = λ env store time u h f. tick_holds p m env store time big u h f;
       le_sound = λ a b store time e h. le_holds p m a b store time e h;
       reduce_sound = λ a store time h. h;

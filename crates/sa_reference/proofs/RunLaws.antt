@@ -1,26 +1,24 @@
 -- Each statement, from a state in its environment: the visits stand in the records, an error is among the alarms, and the
 -- state after is in the environment after. From there to turns of the clock loop, and to whole executions.
-use Rattle.std.proofs.Common.{◌≡◌, ℕ, zero, suc, ℤ, pos, ◌+ℤ◌, true, false, List, [], ◌∷◌, ◌++◌, refl, Option, Some, None, ◌⊎◌, inl, inr}
+use Rattle.std.proofs.Common.{◌≡◌, ℕ, zero, suc, ℤ, pos, ◌+ℤ◌, true, false, List, [], ◌∷◌, ◌++◌, refl, subst, Option, Some, None, ◌⊎◌, inl, inr}
 use Rattle.std.specs.Prelude.{if◌then◌else◌, nat_le, length}
 use Rattle.std.specs.Int.RustNames.{int_le}
 use Rattle.std.specs.List.{AllByRecursion}
 use Rattle.sa_base.specs.declared.alarm.Alarm.{Alarm}
-use Rattle.sa_base.specs.declared.pos.Pos.{Pos}
 use Rattle.sa_typed.specs.declared.program.Program.{Program}
+use Rattle.sa_typed.specs.declared.stmt.LoopKind.TheVariants as kind
 use Rattle.sa_typed.specs.declared.stmt.Stmt.{Stmt, Row_of-Stmt, end_of-Stmt, more_of-Stmt}
-use Rattle.sa_typed.specs.Evaluation.{End, Error, Clock, Blocked, Tape, Going, Value, Gives, Stops, Store, Setting}
-use Rattle.sa_typed.specs.Executions.{Loop, Visit, Run, State, Result, Goes, Breaks, Over, Turn, Again, Leaves, Ended, with_value, with_store, here_in, simple_value, then_state, then_again, visit_with, turns, run, run_all, wait, clock_turn, main_of, start, ended, execution}
-use Rattle.sa_typed.specs.Progress.{IsUnbroken}
+use Rattle.sa_typed.specs.Evaluation.{End, Error, Clock, Blocked, Tape, Going, Value, Gives, Stops, Setting}
+use Rattle.sa_typed.specs.Executions.{Loop, Visit, Run, State, Result, Goes, Breaks, Over, Turn, Again, Leaves, Ended, Bodies, with_value, with_store, here_in, simple_value, then_state, then_again, visit_with, turns, turn_of as one_turn, after_body, run, run_all, wait, bodies_of, main_of, main_activation, start, over, ended, execution}
 use Rattle.sa_typed.specs.WellTyped.{IsTyped, IsTypedStmt, AreTypedStmts}
-use Rattle.sa_typed.proofs.ProgressLaws.{all_unbroken}
 use Rattle.sa_reference.specs.Domain.{Domain}
 use Rattle.sa_reference.specs.Passes.{Facts, alive_then}
-use Rattle.sa_reference.specs.Steps.{Record, Found, Exits, both, found_in, found_over, recorded, list_of, flat, goes_on, either, merged, loop_found, clock_turn_of, spread, broken_over, after, after_all, found, found_all}
+use Rattle.sa_reference.specs.Steps.{Record, Found, Exits, both, found_in, found_over, recorded, list_of, flat, goes_on, either, merged, loop_found, spread, broken_over, after, after_all, found, found_all}
 use Rattle.sa_reference.specs.Reference.{record_at, reference}
 use Rattle.sa_reference.specs.Sound.{IsAmong, IsCovered, AliveAnd}
 use Rattle.sa_reference.proofs.Laws.{Laws, IfAlive, Covers}
 use Rattle.sa_reference.proofs.PassLaws.{if_keeps, Closed}
-use Rattle.sa_reference.proofs.StepLaws.{all_append, among_left, among_right, AreFair, Stands, record_stands, AllUnder, PieceKeeps, merged_keeps, spread_keeps, broken_keeps, after_keeps, all_keep, turn_of, facts_in, clock_ends, clock_keeps, found_fair}
+use Rattle.sa_reference.proofs.StepLaws.{all_append, among_left, among_right, AreFair, Stands, record_stands, AllUnder, PieceKeeps, merged_keeps, spread_keeps, broken_keeps, after_keeps, all_keep, turn_of, facts_in, clock_ends, clock_keeps, found_fair, unbroken}
 
 -- ---- what one walk found is in the whole
 pub record Has {E : Type 0} (G f : Found E) : Type 0 where
@@ -231,22 +229,19 @@ module _ (p : Program) (w : Setting) (D : Domain) (L : Laws p w D) (G : Found D.
       from (Some r) closed u g h = turns_follow loop x.passes one again leaves sees s r closed u g k tries st h i
 
   -- ---- the clock loop
-  wait_follows : (o : Option D.Env) (st : State) → Alive o → AliveAnd (HoldsAt st) o → AllInside st.visits → TurnOk (alive_then o D.tick) None (wait w.max_clock st)
-  wait_follows None st u h i = absurd h
-  wait_follows (Some e) st u h i =
+  wait_follows : (e : D.Env) (st : State) → L.Under e → HoldsAt st e → AllInside st.visits → ResultOk (goes_on (D.tick e)) (wait w.max_clock st)
+  wait_follows e st u h i =
       elim (int_le w.max_clock st.clock) as (λ b. int_le w.max_clock st.clock ≡ b →
-      TurnOk (D.tick e) None (if b then Ended (record { visits = st.visits; end = Clock }) else Again (record st { clock = st.clock +ℤ pos 1 }))) [
+      ResultOk (goes_on (D.tick e)) (if b then over st Clock else Goes (record st { clock = st.clock +ℤ pos 1 }))) [
         | true ↦ λ _. record { inside = i; covered = tt }
-        | false ↦ λ t. record { holds = L.tick_sound e st.store st.clock u h t; inside = i }
+        | false ↦ λ t. record { holds = list_any (HoldsAt (record st { clock = st.clock +ℤ pos 1 })) (D.tick e) (L.tick_sound e st.store st.clock u h t); inside = i }
       ] refl
 
-  clock_turn_ok : {n : _} (r : Row_of-Stmt n) (path : List Pos) → AreTypedStmts p r → (e : D.Env) (st : State) → Begins e (found_all D r path (e ∷ [])) st →
-      (x : Result) → IsUnbroken x → ResultOk (after_all D r path (e ∷ [])) x → TurnOk (turn_of p w D L r path e) None (clock_turn w.max_clock x)
-  clock_turn_ok r path t e st b (Goes st2) u h =
-      let ends = (all_keep p w D L r path t (e ∷ []) (b.under, tt)).ends in
-      wait_follows (merged D (after_all D r path (e ∷ [])).ends) st2 (merged_keeps p w D L _ ends) (merged_any (after_all D r path (e ∷ [])).ends st2 ends h.holds) h.inside
-  clock_turn_ok r path t e st b (Breaks st2) u h = absurd u
-  clock_turn_ok r path t e st b (Over x) u h = h
+  -- what a body leads to begins the next turn
+  clock_turn_ok : (x : Exits D.Env) → AllUnder p w D L x.ends → x.broken ≡ None → (r : Result) → ResultOk x r → TurnOk (merged D x.ends) None (after_body r (λ st. Again st))
+  clock_turn_ok x u e (Goes st) h = record { holds = merged_any x.ends st u h.holds; inside = h.inside }
+  clock_turn_ok x u e (Breaks st) h = subst (λ (o : Option D.Env). StateOk o st) e h
+  clock_turn_ok x u e (Over r) h = h
 
   -- nothing leaves the clock loop
   clock_ok : (x : Facts D.Env) (r : Result) → ResultOk (goes_on (alive_then x.state (λ _. None))) r → ResultOk (goes_on None) r
@@ -256,39 +251,42 @@ module _ (p : Program) (w : Setting) (D : Domain) (L : Laws p w D) (G : Found D.
       dead None h = h
       dead (Some e) h = h
 
-  -- ---- statements
-  mutual
-    unfolding run after found IsTypedStmt
+  -- ---- statements of main, whatever calls do
+  module _ (bodies : Bodies) where
+    mutual
+      unfolding run after found IsTypedStmt
 
-    run_follows : (s : Stmt) (path : List Pos) → IsTypedStmt p s → Follows (λ st. run p w path s st) (λ e. after D s path e) (λ e. found D s path e)
-    run_follows (Stmt.Simple s) path t e st b =
-        valued (λ store. AliveAnd (λ i. D.Holds i store st.clock) (D.simple s e)) (D.simple_alarms s e) (simple_value p w (here_in path st) s st.store st.tape) (goes_on (D.simple s e)) st
-        (λ store st. Goes (with_store st store)) (L.simple_sound s e path st.store st.clock st.tape t b.under b.holds) b.has.alarms b.inside
-        (λ store tape h. record { holds = list_any (HoldsAt (with_store (record st { tape = tape }) store)) (D.simple s e) h; inside = b.inside })
-    run_follows (Stmt.Block' n all) path t e st b =
-        let x = after_all D all path (e ∷ []) in
-        let kept = all_keep p w D L all path t (e ∷ []) (b.under, tt) in
-        widen_to x (record { ends = list_of (merged D x.ends); broken = x.broken }) (run_all p w path all st)
-        (all_follow all path t (e ∷ []) st (b.under, tt) b.has (inl b.holds) b.inside)
-        (λ st h. list_any (HoldsAt st) (merged D x.ends) (merged_any x.ends st kept.ends h)) (λ st h. h)
-    run_follows (Stmt.Clock' q n all) path t e st b =
-        clock_ok (facts_in p w D L all path e) _
-        (loop_follows (record { path = path; place = q }) (facts_in p w D L all path e) (λ st. clock_turn w.max_clock (run_all p w path all st)) (turn_of p w D L all path) (λ _. None)
-        (λ r. found_all D all path (r ∷ [])) e (clock_ends p w D L all path t e b.under).closed (clock_keeps p w D L all path t e b.under) b.has
-        (λ r st b. clock_turn_ok all path t r st b (run_all p w path all st) (all_unbroken p w path all st) (all_follow all path t (r ∷ []) st (b.under, tt) b.has (inl b.holds) b.inside)) st.left st b.holds b.inside)
+      run_follows : (s : Stmt) → IsTypedStmt p s → Follows (λ st. run p w bodies (main_activation p) s st) (λ e. after D s [] e) (λ e. found D s [] e)
+      run_follows (Stmt.Simple s) t e st b =
+          valued (λ store. AliveAnd (λ i. D.Holds i store st.clock) (D.simple s e)) (D.simple_alarms s e) (simple_value p w (here_in (main_activation p) st) s st.store st.tape) (goes_on (D.simple s e)) st
+          (λ store st. Goes (with_store st store)) (L.simple_sound s e st.store st.clock st.tape t b.under b.holds) b.has.alarms b.inside
+          (λ store tape h. record { holds = list_any (HoldsAt (with_store (record st { tape = tape }) store)) (D.simple s e) h; inside = b.inside })
+      run_follows (Stmt.Block' n all) t e st b =
+          let x = after_all D all [] (e ∷ []) in
+          let kept = all_keep p w D L all [] t (e ∷ []) (b.under, tt) in
+          widen_to x (record { ends = list_of (merged D x.ends); broken = x.broken }) (run_all p w bodies (main_activation p) all st)
+          (all_follow all t (e ∷ []) st (b.under, tt) b.has (inl b.holds) b.inside)
+          (λ st h. list_any (HoldsAt st) (merged D x.ends) (merged_any x.ends st kept.ends h)) (λ st h. h)
+      run_follows Stmt.Wait t e st b = wait_follows e st b.under b.holds b.inside
+      run_follows (Stmt.Loop' q kind.Clock None n (more_of-Stmt body end_of-Stmt) None) t e st b =
+          clock_ok (facts_in p w D L body [] e) _
+          (loop_follows (record { path = []; place = q }) (facts_in p w D L body [] e) (one_turn p w (main_activation p) kind.Clock None (λ st. run p w bodies (main_activation p) body st) None)
+          (turn_of p w D L body []) (λ _. None) (λ r. found D body [] r) e (clock_ends p w D L body [] t e b.under).closed (clock_keeps p w D L body [] t e b.under) b.has
+          (λ r st b. clock_turn_ok (after D body [] r) (after_keeps p w D L body [] t r b.under).ends (unbroken D body [] r) _ (run_follows body t r st b)) st.left st b.holds b.inside)
+      run_follows _ t e st b = absurd t
 
-    all_follow : {n : _} (r : Row_of-Stmt n) (path : List Pos) → AreTypedStmts p r → FollowsAll (λ st. run_all p w path r st) (λ es. after_all D r path es) (λ es. found_all D r path es)
-    all_follow end_of-Stmt path t es st u g h i = record { holds = h; inside = i }
-    all_follow (more_of-Stmt s rest) path t es st u g h i =
-        let next = λ (e : D.Env). after D s path e in
-        let kept = after_keeps p w D L s path t.0 in
-        let x : Exits D.Env = record { ends = spread D next es; broken = broken_over D next es } in
-        let fs = found_over es (λ e. found D s path e) in
-        let ft = found_all D rest path (spread D next es) in
-        let ends = spread_keeps p w D L next es kept u in
-        chain x (run p w path s st) (λ st. run_all p w path rest st) (λ es. after_all D rest path es) (λ es. found_all D rest path es)
-        (spread_follows (λ st. run p w path s st) next (λ e. found D s path e) (run_follows s path t.0) kept es st u (has_left G fs ft g) h i)
-        ends (broken_keeps p w D L next es kept u) (all_keep p w D L rest path t.1 (spread D next es) ends).broken (has_right G fs ft g) (all_follow rest path t.1)
+      all_follow : {n : _} (r : Row_of-Stmt n) → AreTypedStmts p r → FollowsAll (λ st. run_all p w bodies (main_activation p) r st) (λ es. after_all D r [] es) (λ es. found_all D r [] es)
+      all_follow end_of-Stmt t es st u g h i = record { holds = h; inside = i }
+      all_follow (more_of-Stmt s rest) t es st u g h i =
+          let next = λ (e : D.Env). after D s [] e in
+          let kept = after_keeps p w D L s [] t.0 in
+          let x : Exits D.Env = record { ends = spread D next es; broken = broken_over D next es } in
+          let fs = found_over es (λ e. found D s [] e) in
+          let ft = found_all D rest [] (spread D next es) in
+          let ends = spread_keeps p w D L next es kept u in
+          chain x (run p w bodies (main_activation p) s st) (λ st. run_all p w bodies (main_activation p) rest st) (λ es. after_all D rest [] es) (λ es. found_all D rest [] es)
+          (spread_follows (λ st. run p w bodies (main_activation p) s st) next (λ e. found D s [] e) (run_follows s t.0) kept es st u (has_left G fs ft g) h i)
+          ends (broken_keeps p w D L next es kept u) (all_keep p w D L rest [] t.1 (spread D next es) ends).broken (has_right G fs ft g) (all_follow rest t.1)
 
   -- ---- the program
   ended_ok : (x : Exits D.Env) (r : Result) → ResultOk x r → RunOk (ended r)
@@ -299,8 +297,8 @@ module _ (p : Program) (w : Setting) (D : Domain) (L : Laws p w D) (G : Found D.
   pub program_follows : IsTyped p → Has G (found D (main_of p) [] D.initial) → (tape : List ℤ) (k : ℕ) → RunOk (execution p w tape k)
   unfolding execution
   program_follows t g tape k =
-      ended_ok (after D (main_of p) [] D.initial) (run p w [] (main_of p) (start p tape k))
-      (run_follows (main_of p) [] t.body D.initial (start p tape k) (record { under = L.initial_keeps; has = g; holds = L.initial_sound; inside = tt }))
+      ended_ok (after D (main_of p) [] D.initial) (run p w (bodies_of p w (length p.funcs)) (main_activation p) (main_of p) (start p tape k))
+      (run_follows (bodies_of p w (length p.funcs)) (main_of p) t.body D.initial (start p tape k) (record { under = L.initial_keeps; has = g; holds = L.initial_sound; inside = tt }))
 
 -- ---- the reference
 module _ (p : Program) (w : Setting) (D : Domain) (L : Laws p w D) (t : IsTyped p) where

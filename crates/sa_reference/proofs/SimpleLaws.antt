@@ -1,22 +1,20 @@
 -- Each simple statement is sound, and keeps environments fair.
 use Rattle.std.proofs.lemmas.Bool.Decides.{nat_tests}
-use Rattle.std.proofs.Common.{◌≡◌, ℕ, zero, suc, ◌+◌, ℤ, pos, Bool, true, false, ◌&&◌, List, [], ◌∷◌, ◌++◌, refl, sym, ap, subst, ◌∙◌, arith, Option, Some, None, inl, inr}
-use Rattle.std.specs.Prelude.{if◌then◌else◌, get_or, IsTrue, ◌==◌, slice_get}
+use Rattle.std.proofs.Common.{◌≡◌, ℕ, ℤ, pos, Bool, true, false, ◌&&◌, List, [], ◌∷◌, ◌++◌, refl, sym, ap, subst, ◌∙◌, arith, Option, Some}
+use Rattle.std.specs.Prelude.{get_or, ◌==◌}
 use Rattle.sa_base.specs.declared.num.Num.{Num}
 use Rattle.sa_base.specs.declared.pos.Pos.{Pos}
-use Rattle.sa_base.specs.declared.alarm.Alarm.{Alarm}
 use Rattle.sa_interval.specs.Span.{Span, Within}
-use Rattle.sa_typed.specs.Arithmetic.{operate, converted, is_of}
+use Rattle.sa_typed.specs.Arithmetic.{operate, converted}
 use Rattle.sa_typed.specs.Layouts.{Layout, leaf, nums, index_of, layout_of, num_in}
-use Rattle.sa_typed.specs.Evaluation.{Setting, Value, Gives, Stops, Here, Store, then_value, given, place_of, eval, access_place, read_place}
-use Rattle.sa_typed.specs.Executions.{same_path, same_var, strong_update, filled, any_numbers, initial_of, converted_value, declare_value, compound_value, simple_value}
+use Rattle.sa_typed.specs.Evaluation.{Setting, Gives, Here, Store, then_value, given, place_of, eval, read_place}
+use Rattle.sa_typed.specs.Executions.{same_path, same_var, strong_update, filled, any_numbers, converted_value, declare_value, compound_value, simple_value}
 use Rattle.sa_typed.specs.Cells.{Cell, cells, covers, names, is_root}
 use Rattle.sa_typed.specs.WellTyped.{IsTyped, IsTypedSimple, IsTypedStart, IsTypedExpr, IsLink, type_of}
 use Rattle.sa_typed.specs.declared.expr.Expr.{Expr}
 use Rattle.sa_typed.specs.declared.expr.Expr.TheVariants as e
 use Rattle.sa_typed.specs.declared.expr.Access.{Access}
 use Rattle.sa_typed.specs.declared.expr.Operator.{Operator}
-use Rattle.sa_typed.specs.declared.shape.Part.{Part}
 use Rattle.sa_typed.specs.declared.stmt.Start.{Start}
 use Rattle.sa_typed.specs.declared.stmt.Start.TheVariants as begins
 use Rattle.sa_typed.specs.declared.stmt.Simple.{Simple}
@@ -25,20 +23,17 @@ use Rattle.sa_typed.specs.declared.program.Place.{Place}
 use Rattle.sa_typed.specs.declared.program.Program.{Program}
 use Rattle.sa_base.specs.declared.num.Num.TheVariants.{I32}
 use Rattle.sa_reference.specs.declared.flat.Flat.{Flat}
-use Rattle.sa_reference.specs.Passes.{alive_then}
-use Rattle.sa_operators.specs.Operators.{IsIn, range_of, converted_span, conversion_alarms, operator_span, operator_alarms}
-use Rattle.sa_reference.specs.Environments.{AllHold, Holds, cell_range, items_span, initial_values}
-use Rattle.sa_reference.specs.Values.{span_of, alarms_of, named, read_cells, access_cells, access_alarms, linked, with_one, with_both}
+use Rattle.sa_operators.specs.Operators.{IsIn, range_of, operator_alarms}
+use Rattle.sa_reference.specs.Environments.{Holds, cell_range, items_span, initial_values}
+use Rattle.sa_reference.specs.Values.{span_of, alarms_of, named, read_cells, access_cells, linked, with_both}
 use Rattle.sa_reference.specs.Assignments.{set_cells, with_cells, assign_to, value_as, read_of, declare_of, declare_alarms, simple_of, simple_alarms, assign_alarms}
 use Rattle.sa_reference.specs.Fair.{AreIn, IsFair}
-use Rattle.sa_reference.specs.Sound.{IsAmong, AliveAnd, IsWithin}
-use Rattle.sa_reference.proofs.Laws.{IfAlive, Covers}
+use Rattle.sa_reference.specs.Sound.{IsWithin}
+use Rattle.sa_reference.proofs.Laws.{IfAlive, Covers, main_here}
 use Rattle.sa_reference.proofs.SpanLaws.{and_left, and_right, both_true}
 use Rattle.sa_reference.proofs.EnvLaws.{range_in}
-use Rattle.sa_reference.proofs.CellLaws.{AllOf}
-use Rattle.sa_reference.proofs.ValueLaws.{OperatorFacts, InSpan, span_in, known, both_cover, then_covers, more_covers, value_is, link_covers, link_in, convert_covers, convert_in}
-use Rattle.sa_reference.proofs.PointLaws.{NamesAll, AreOf}
-use Rattle.sa_reference.proofs.AccessLaws.{Led, CellsKnown, led, cells_known, whole_named, whole_of}
+use Rattle.sa_reference.proofs.ValueLaws.{OperatorFacts, InSpan, span_in, known, both_cover, then_covers, link_covers, link_in, convert_covers, convert_in}
+use Rattle.sa_reference.proofs.AccessLaws.{Led, led, cells_known, whole_named, whole_of}
 use Rattle.sa_reference.proofs.InitialLaws.{AreNumbers, any_cover, of_within}
 use Rattle.sa_reference.proofs.StructLaws.{copy_sound, copy_keeps}
 use Rattle.sa_reference.proofs.AssignLaws.{HoldsAfter, assign_holds, assign_fair, set_in, set_holds, cell_leads, cell_begins, items_in, all_map, all_each}
@@ -46,9 +41,12 @@ use Rattle.sa_reference.proofs.AssignLaws.{HoldsAfter, assign_holds, assign_fair
 number_is : (k i : ℕ) → (k == i) ≡ true → k ≡ i
 number_is k i h = grind (arith, nat_tests)
 
-module _ (p : Program) (w : Setting) (F : OperatorFacts) (within : IsWithin p w) (here : Here) (store : Store) (time : ℤ) (env : Flat) (fair : AreIn (cells p) env.cells) (holds : Holds p env store time) where
+module _ (p : Program) (w : Setting) (F : OperatorFacts) (within : IsWithin p w) (store : Store) (time : ℤ) (env : Flat) (fair : AreIn (cells p) env.cells) (holds : Holds p env store time) where
+  abbrev here : Here
+  here = main_here time
+
   value_known : (a : Expr) → IsTypedExpr p a → (tape : List ℤ) → Covers (InSpan (span_of p w env a)) (alarms_of p w env a) (eval w here store a tape)
-  value_known a t tape = known p w F within here store env fair holds.cells a t tape
+  value_known a t tape = known p w F within time store env fair holds.cells a t tape
 
   value_in : (a : Expr) → IsTypedExpr p a → IfAlive (λ s. IsIn (type_of a) s) (span_of p w env a)
   value_in a t = span_in p w F within env fair a t
@@ -131,7 +129,7 @@ module _ (p : Program) (w : Setting) (F : OperatorFacts) (within : IsWithin p w)
       (alarms_of p w env a ++ assign_alarms num q (span_of p w env a)) (converted_value w here store num q a tape) (λ z tape. Gives (strong_update (place_of here v []) z store) tape)
       (converted_known num q a t.0 tape) (λ a m. m) (λ a m. absurd m)
       (λ z tape i. assign_holds p env store time (place_of here v []) z (Some (named p v [])) (value_as num (span_of p w env a)) holds
-      (whole_named p here v num is) i)
+      (whole_named p v num is) i)
     where
       leaf_is : (l : Layout) (num : Num) → l ≡ leaf num → l ≡ leaf (num_in l)
       leaf_is l num h = h ∙ ap leaf (sym (ap num_in h))
@@ -144,9 +142,9 @@ module _ (p : Program) (w : Setting) (F : OperatorFacts) (within : IsWithin p w)
   assign_sound x num q a tape t =
       let r = e.Read x I32 in
       let s = value_as num (span_of p w env a) in
-      both_cover (Led p w F within here store env fair holds.cells r) (λ st. HoldsAfter p time (assign_to p env (read_cells p w env r) s) st) (alarms_of p w env r)
+      both_cover (Led p w F within time store env fair holds.cells r) (λ st. HoldsAfter p time (assign_to p env (read_cells p w env r) s) st) (alarms_of p w env r)
       (alarms_of p w env a ++ assign_alarms num q (span_of p w env a)) (read_place w here store r tape)
-      (λ at tape. then_value (converted_value w here store num q a tape) (λ z tape. Gives (strong_update at z store) tape)) (led p w F within here store env fair holds.cells r num t.0 tape)
+      (λ at tape. then_value (converted_value w here store num q a tape) (λ z tape. Gives (strong_update at z store) tape)) (led p w F within time store env fair holds.cells r num t.0 tape)
       (λ at tape l. then_covers (InSpan s) (λ st. HoldsAfter p time (assign_to p env (read_cells p w env r) s) st) (alarms_of p w env a ++ assign_alarms num q (span_of p w env a)) []
       (alarms_of p w env a ++ assign_alarms num q (span_of p w env a)) (converted_value w here store num q a tape) (λ z tape. Gives (strong_update at z store) tape) (converted_known num q a t.1 tape) (λ a m. m) (λ a m. absurd m)
       (λ z tape i. assign_holds p env store time at z (read_cells p w env r) s holds l.named i))
@@ -159,8 +157,8 @@ module _ (p : Program) (w : Setting) (F : OperatorFacts) (within : IsWithin p w)
       let o = read_of env (read_cells p w env r) in
       let s = value_as num (linked op work o (span_of p w env a)) in
       let more = alarms_of p w env a ++ (with_both o (span_of p w env a) (operator_alarms op q work) ++ assign_alarms num q (linked op work o (span_of p w env a))) in
-      both_cover (Led p w F within here store env fair holds.cells r) (λ st. HoldsAfter p time (assign_to p env (read_cells p w env r) s) st) (alarms_of p w env r) more (read_place w here store r tape)
-      (λ at tape. then_value (compound_value w here store num op work q (store at) a tape) (λ z tape. Gives (strong_update at z store) tape)) (led p w F within here store env fair holds.cells r num t.0 tape)
+      both_cover (Led p w F within time store env fair holds.cells r) (λ st. HoldsAfter p time (assign_to p env (read_cells p w env r) s) st) (alarms_of p w env r) more (read_place w here store r tape)
+      (λ at tape. then_value (compound_value w here store num op work q (store at) a tape) (λ z tape. Gives (strong_update at z store) tape)) (led p w F within time store env fair holds.cells r num t.0 tape)
       (λ at tape l. then_covers (InSpan s) (λ st. HoldsAfter p time (assign_to p env (read_cells p w env r) s) st) more [] more (compound_value w here store num op work q (store at) a tape)
       (λ z tape. Gives (strong_update at z store) tape)
       (compound_known num op work q o (store at) a t.1.0 t.1.1 (cells_known p w F within env fair r num t.0).reads l.reads tape) (λ a m. m) (λ a m. absurd m)
@@ -200,13 +198,13 @@ module _ (p : Program) (w : Setting) (F : OperatorFacts) (within : IsWithin p w)
       (convert_in F _ num (linked op work o (span_of p w env a)) (link_in F op num work (type_of a) o (span_of p w env a) t.1.1 k.reads (span_in p w F within env fair.cells a t.1.0)))
 
 -- ---- every simple statement
-pub simple_sound : (p : Program) (w : Setting) (F : OperatorFacts) → IsWithin p w → (here : Here) (store : Store) (time : ℤ) (env : Flat) → AreIn (cells p) env.cells → Holds p env store time →
-    (s : Simple) (tape : List ℤ) → IsTypedSimple p s → Covers (λ st. HoldsAfter p time (simple_of p w s env) st) (simple_alarms p w s env) (simple_value p w here s store tape)
+pub simple_sound : (p : Program) (w : Setting) (F : OperatorFacts) → IsWithin p w → (store : Store) (time : ℤ) (env : Flat) → AreIn (cells p) env.cells → Holds p env store time →
+    (s : Simple) (tape : List ℤ) → IsTypedSimple p s → Covers (λ st. HoldsAfter p time (simple_of p w s env) st) (simple_alarms p w s env) (simple_value p w (main_here time) s store tape)
 unfolding simple_of simple_alarms simple_value
-simple_sound p w F within here store time env fair holds (Declare v s) tape t = declare_sound p w F within here store time env fair holds v s tape t
-simple_sound p w F within here store time env fair holds (Assign x num q a) tape t = assign_sound p w F within here store time env fair holds x num q a tape t
-simple_sound p w F within here store time env fair holds (Compound x num op q work a) tape t = compound_sound p w F within here store time env fair holds x num op q work a tape t
-simple_sound p w F within here store time env fair holds (Copy k x q y) tape t = copy_sound p w F within here store time env fair holds k x q y tape t
+simple_sound p w F within store time env fair holds (Declare v s) tape t = declare_sound p w F within store time env fair holds v s tape t
+simple_sound p w F within store time env fair holds (Assign x num q a) tape t = assign_sound p w F within store time env fair holds x num q a tape t
+simple_sound p w F within store time env fair holds (Compound x num op q work a) tape t = compound_sound p w F within store time env fair holds x num op q work a tape t
+simple_sound p w F within store time env fair holds (Copy k x q y) tape t = copy_sound p w F within store time env fair holds k x q y tape t
 
 pub simple_keeps : (p : Program) (w : Setting) (F : OperatorFacts) → IsWithin p w → IsTyped p → (m : ℤ) (env : Flat) → IsFair p m env → (s : Simple) → IsTypedSimple p s → IfAlive (IsFair p m) (simple_of p w s env)
 unfolding simple_of

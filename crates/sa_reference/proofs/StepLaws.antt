@@ -1,21 +1,22 @@
 -- Statements keep what the operations keep, and each record is short and under the top.
 use Rattle.std.proofs.lemmas.Bool.Decides.{nat_tests}
-use Rattle.std.proofs.Common.{◌≡◌, ℕ, ◌≤◌, ℤ, Bool, true, false, List, [], ◌∷◌, ◌++◌, refl, sym, subst, arith, Option, Some, None, inl, inr}
+use Rattle.std.proofs.Common.{◌≡◌, ◌≤◌, ℤ, Bool, true, false, List, [], ◌∷◌, ◌++◌, refl, sym, subst, ap₂, arith, Option, Some, None, inl, inr}
 use Rattle.std.specs.Prelude.{if◌then◌else◌, ◌==◌, nat_le, length}
 use Rattle.std.specs.List.{AllByRecursion}
 use Rattle.sa_base.specs.declared.pos.Pos.{Pos}
+use Rattle.sa_typed.specs.declared.stmt.LoopKind.TheVariants as kind
 use Rattle.sa_typed.specs.declared.stmt.Stmt.{Stmt, Row_of-Stmt, end_of-Stmt, more_of-Stmt}
 use Rattle.sa_typed.specs.declared.program.Program.{Program}
 use Rattle.sa_typed.specs.Evaluation.{Store, Setting}
 use Rattle.sa_typed.specs.Executions.{Loop, same_path, same_pos}
 use Rattle.sa_typed.specs.WellTyped.{IsTypedStmt, AreTypedStmts}
 use Rattle.sa_reference.specs.Domain.{Domain}
-use Rattle.sa_reference.specs.Steps.{Record, Found, Exits, both, recorded, found_in, found_over, list_of, flat, goes_on, either, merged, spread, broken_over, clock_turn_of, clock_facts, loop_found, after, after_all, found, found_all}
+use Rattle.sa_reference.specs.Steps.{Record, Found, Exits, both, recorded, found_in, found_over, list_of, flat, goes_on, either, merged, spread, broken_over, clock_turn_of, clock_facts, after, after_all, found, found_all}
 use Rattle.sa_reference.specs.Reference.{record_at, with_record, same_loop}
-use Rattle.sa_reference.specs.Passes.{Facts, alive_then}
+use Rattle.sa_reference.specs.Passes.{Facts}
 use Rattle.sa_reference.specs.Sound.{IsAmong, AliveAnd}
 use Rattle.sa_reference.proofs.Laws.{Laws, IfAlive}
-use Rattle.sa_reference.proofs.PassLaws.{if_keeps, alive_keeps, Keeps, Ends, facts_keep, facts_end}
+use Rattle.sa_reference.proofs.PassLaws.{if_keeps, Keeps, Ends, facts_keep, facts_end}
 
 -- ---- lists
 pub all_append : {A : Type 0} (P : A → Type 0) (xs ys : List A) → AllByRecursion P xs → AllByRecursion P ys → AllByRecursion P (xs ++ ys)
@@ -62,6 +63,25 @@ same_path_self (p ∷ ps) = rw (same_pos_self p, same_path_self ps) refl
 pub same_loop_self : (l : Loop) → same_loop l l ≡ true
 same_loop_self l = rw (same_pos_self l.place, same_path_self l.path) refl
 
+-- ---- nothing leaves by a break yet
+module _ (D : Domain) where
+  none_broken : (go : D.Env → Exits D.Env) → ((e : D.Env) → (go e).broken ≡ None) → (es : List D.Env) → broken_over D go es ≡ None
+  none_broken go h [] = refl
+  none_broken go h (e ∷ es) = ap₂ (either D) (h e) (none_broken go h es)
+
+  mutual
+    unfolding after
+
+    pub unbroken : (s : Stmt) (path : List Pos) (e : D.Env) → (after D s path e).broken ≡ None
+    unbroken (Stmt.Block' n all) path e = all_unbroken all path (e ∷ [])
+    unbroken (Stmt.Loop' q kind.Clock None n (more_of-Stmt body end_of-Stmt) None) path e = refl
+    unbroken _ path e = refl
+
+    all_unbroken : {n : _} (r : Row_of-Stmt n) (path : List Pos) (es : List D.Env) → (after_all D r path es).broken ≡ None
+    all_unbroken end_of-Stmt path es = refl
+    all_unbroken (more_of-Stmt s rest) path es =
+        ap₂ (either D) (none_broken (λ e. after D s path e) (λ e. unbroken s path e) es) (all_unbroken rest path (spread D (λ e. after D s path e) es))
+
 module _ (p : Program) (w : Setting) (D : Domain) (L : Laws p w D) where
   abbrev pub AllUnder : List D.Env → Type 0
   AllUnder es = AllByRecursion L.Under es
@@ -103,7 +123,9 @@ module _ (p : Program) (w : Setting) (D : Domain) (L : Laws p w D) where
     after_keeps (Stmt.Block' n all) path t e u =
         let x = all_keep all path t (e ∷ []) (u, tt) in
         record { ends = list_all L.Under _ (merged_keeps _ x.ends); broken = x.broken }
-    after_keeps (Stmt.Clock' q n all) path t e u = record { ends = tt; broken = tt }
+    after_keeps Stmt.Wait path t e u = on_keeps (D.tick e) (L.tick_keeps e u)
+    after_keeps (Stmt.Loop' q kind.Clock None n (more_of-Stmt body end_of-Stmt) None) path t e u = record { ends = tt; broken = tt }
+    after_keeps _ path t e u = on_keeps (Some e) u
 
     pub all_keep : {n : _} (r : Row_of-Stmt n) (path : List Pos) → AreTypedStmts p r → (es : List D.Env) → AllUnder es → ExitsKeep (after_all D r path es)
     all_keep end_of-Stmt path t es h = record { ends = h; broken = tt }
@@ -113,20 +135,20 @@ module _ (p : Program) (w : Setting) (D : Domain) (L : Laws p w D) where
         record { ends = x.ends; broken = either_keeps _ _ (broken_keeps (λ e. after D s path e) es k h) x.broken }
 
   -- the body of the clock loop
-  abbrev pub turn_of : {n : _} → Row_of-Stmt n → List Pos → D.Env → Option D.Env
-  turn_of all path e = clock_turn_of D (λ e. after_all D all path (e ∷ [])) e
+  abbrev pub turn_of : Stmt → List Pos → D.Env → Option D.Env
+  turn_of body path e = clock_turn_of D (λ e. after D body path e) e
 
-  abbrev pub facts_in : {n : _} → Row_of-Stmt n → List Pos → D.Env → Facts D.Env
-  facts_in all path s = clock_facts D (λ e. after_all D all path (e ∷ [])) s
+  abbrev pub facts_in : Stmt → List Pos → D.Env → Facts D.Env
+  facts_in body path s = clock_facts D (λ e. after D body path e) s
 
-  pub turn_keeps : {n : _} (r : Row_of-Stmt n) (path : List Pos) → AreTypedStmts p r → Keeps p w D L (turn_of r path)
-  turn_keeps r path t e u = alive_keeps L.Under L.Under (merged D (after_all D r path (e ∷ [])).ends) D.tick (merged_keeps _ (all_keep r path t (e ∷ []) (u, tt)).ends) (λ e u. L.tick_keeps e u)
+  pub turn_keeps : (body : Stmt) (path : List Pos) → IsTypedStmt p body → Keeps p w D L (turn_of body path)
+  turn_keeps body path t e u = merged_keeps (after D body path e).ends (after_keeps body path t e u).ends
 
-  pub clock_ends : {n : _} (r : Row_of-Stmt n) (path : List Pos) → AreTypedStmts p r → (s : D.Env) → L.Under s → Ends p w D L (turn_of r path) s (facts_in r path s)
-  clock_ends r path t s u = facts_end p w D L (turn_of r path) D.top s (turn_keeps r path t) L.top_keeps u L.below_top
+  pub clock_ends : (body : Stmt) (path : List Pos) → IsTypedStmt p body → (s : D.Env) → L.Under s → Ends p w D L (turn_of body path) s (facts_in body path s)
+  clock_ends body path t s u = facts_end p w D L (turn_of body path) D.top s (turn_keeps body path t) L.top_keeps u L.below_top
 
-  pub clock_keeps : {n : _} (r : Row_of-Stmt n) (path : List Pos) → AreTypedStmts p r → (s : D.Env) → L.Under s → IfAlive L.Under (facts_in r path s).state
-  clock_keeps r path t s u = facts_keep p w D L (turn_of r path) D.top s (turn_keeps r path t) L.top_keeps u
+  pub clock_keeps : (body : Stmt) (path : List Pos) → IsTypedStmt p body → (s : D.Env) → L.Under s → IfAlive L.Under (facts_in body path s).state
+  clock_keeps body path t s u = facts_keep p w D L (turn_of body path) D.top s (turn_keeps body path t) L.top_keeps u
 
   -- a record of few passes, under the top
   pub record Fair (r : Record D.Env) : Type 0 where
@@ -142,9 +164,10 @@ module _ (p : Program) (w : Setting) (D : Domain) (L : Laws p w D) where
     pub found_fair : (s : Stmt) (path : List Pos) → IsTypedStmt p s → (e : D.Env) → L.Under e → AreFair (found D s path e)
     found_fair (Stmt.Simple s) path t e u = tt
     found_fair (Stmt.Block' n all) path t e u = all_fair all path t (e ∷ []) (u, tt)
-    found_fair (Stmt.Clock' q n all) path t e u =
-        found_all_in Fair L.Under (facts_in all path e).state (λ r. both (recorded (record { path = path; place = q }) (facts_in all path e).passes r) (found_all D all path (r ∷ [])))
-        (clock_keeps all path t e u) (λ r v. (record { short = (clock_ends all path t e u).short; under = v }, all_fair all path t (r ∷ []) (v, tt)))
+    found_fair (Stmt.Loop' q kind.Clock None n (more_of-Stmt body end_of-Stmt) None) path t e u =
+        found_all_in Fair L.Under (facts_in body path e).state (λ r. both (recorded (record { path = path; place = q }) (facts_in body path e).passes r) (found D body path r))
+        (clock_keeps body path t e u) (λ r v. (record { short = (clock_ends body path t e u).short; under = v }, found_fair body path t r v))
+    found_fair _ path t e u = tt
 
     pub all_fair : {n : _} (r : Row_of-Stmt n) (path : List Pos) → AreTypedStmts p r → (es : List D.Env) → AllUnder es → AreFair (found_all D r path es)
     all_fair end_of-Stmt path t es h = tt

@@ -1,24 +1,21 @@
 -- The assignment of a structure is sound, and keeps environments fair.
-use Rattle.std.proofs.lemmas.Bool.Decides.{nat_tests}
-use Rattle.std.proofs.Common.{◌≡◌, ℕ, zero, suc, ◌+◌, ℤ, pos, Bool, true, false, ◌&&◌, List, [], ◌∷◌, ◌++◌, refl, sym, ap, subst, ◌∙◌, arith, Option, Some, None, inl, inr}
-use Rattle.std.specs.Prelude.{if◌then◌else◌, IsTrue, ◌==◌, nat_lt, slice_get, option_map, Result, Ok, Err, unsigned_abs}
+use Rattle.std.proofs.Common.{◌≡◌, ℕ, ℤ, pos, true, false, ◌&&◌, List, [], ◌∷◌, refl, sym, ap, subst, ◌∙◌, Option, Some, None}
+use Rattle.std.specs.Prelude.{if◌then◌else◌, option_map, Result, Ok, Err, unsigned_abs}
 use Rattle.std.specs.Int.RustNames.{int_le, int_lt}
-use Rattle.std.proofs.lemmas.Int.{ints}
 use Rattle.sa_base.specs.declared.num.Num.TheVariants.{I32}
 use Rattle.sa_base.specs.declared.pos.Pos.{Pos}
 use Rattle.sa_base.specs.declared.alarm.Alarm.{Alarm}
 use Rattle.sa_base.specs.declared.alarm.Kind.{Kind}
-use Rattle.sa_interval.specs.Span.{Span}
 use Rattle.sa_interval.specs.Rows.{single}
-use Rattle.sa_typed.specs.Layouts.{Layout, leaf, row, fields, step_into, layout_of}
+use Rattle.sa_typed.specs.Layouts.{Layout, row, step_into, layout_of}
 use Rattle.sa_typed.specs.Evaluation.{Setting, Value, Gives, Stops, Here, Store, then_value, place_of, steps_value, read_place}
 use Rattle.sa_typed.specs.Executions.{copied, simple_value}
 use Rattle.sa_typed.specs.Constants.{element_of, fixed_index, constant_value}
-use Rattle.sa_typed.specs.Cells.{Cell, cells, inner_cells}
-use Rattle.sa_typed.specs.WellTyped.{IsRead, IsFixedAccess, is_fixed_read, are_fixed, steps_layout, typed_step, IsTypedSimple}
-use Rattle.sa_typed.specs.declared.expr.Expr.{Expr, Number, Read', Input, Prefix', Cast', Chain', end_of-Expr, more_of-Expr, Row_of-Step, end_of-Step, more_of-Step}
+use Rattle.sa_typed.specs.Cells.{cells, inner_cells}
+use Rattle.sa_typed.specs.WellTyped.{IsRead, is_fixed_read, steps_layout, IsTypedSimple}
+use Rattle.sa_typed.specs.declared.expr.Expr.{Expr, Number, Read', Input, Prefix', Cast', Chain', And', Or', Choice', end_of-Expr, more_of-Expr, Row_of-Step, end_of-Step, more_of-Step}
 use Rattle.sa_typed.specs.declared.expr.Expr.TheVariants as e
-use Rattle.sa_typed.specs.declared.expr.Step.{Step, At', Field}
+use Rattle.sa_typed.specs.declared.expr.Step.{At', Field}
 use Rattle.sa_typed.specs.declared.expr.Access.{Access}
 use Rattle.sa_typed.specs.declared.shape.Part.{Part}
 use Rattle.sa_typed.specs.declared.shape.Part.TheVariants as part
@@ -29,26 +26,26 @@ use Rattle.sa_reference.specs.declared.flat.Flat.{Flat}
 use Rattle.sa_reference.specs.declared.reach.Reach.{Reach}
 use Rattle.sa_reference.specs.declared.reach.Reach.TheVariants as reach
 use Rattle.sa_reference.specs.Passes.{alive_then}
-use Rattle.sa_reference.specs.Environments.{AllHold, Holds}
-use Rattle.sa_reference.specs.Values.{named, fixed_reach, fixed_reaches, fixed_cells, fixed_access_cells, alarms_of, steps_alarms, access_alarms}
+use Rattle.sa_reference.specs.Environments.{Holds}
+use Rattle.sa_reference.specs.Values.{named, fixed_reach, fixed_reaches, fixed_cells, fixed_access_cells, alarms_of, steps_alarms}
 use Rattle.sa_reference.specs.Assignments.{with_cells, simple_of, simple_alarms}
 use Rattle.sa_reference.specs.Assignments as change
 use Rattle.sa_reference.specs.Fair.{AreIn, IsFair}
-use Rattle.sa_reference.specs.Sound.{IsAmong, AliveAnd, IsWithin}
-use Rattle.sa_reference.proofs.Laws.{IfAlive, Covers}
+use Rattle.sa_reference.specs.Sound.{AliveAnd, IsWithin}
+use Rattle.sa_reference.proofs.Laws.{IfAlive, Covers, main_place, main_here}
 use Rattle.sa_reference.proofs.CellLaws.{parts_layout}
 use Rattle.sa_reference.proofs.ValueLaws.{OperatorFacts, StepsTaken, both_cover, then_covers, steps_known, step_leads, row_step, field_step, index_steps}
 use Rattle.sa_reference.proofs.PointLaws.{to_held, from_held, to_in, from_in}
-use Rattle.sa_reference.proofs.FixedLaws.{Exactly, IsExactly, On, Fixed, steps_exact, steps_to}
+use Rattle.sa_reference.proofs.FixedLaws.{Exactly, On, Fixed, steps_exact, steps_to}
 use Rattle.sa_reference.proofs.CopyLaws.{copy_holds, copies_in, cells_stand}
 use Rattle.sa_reference.proofs.AssignLaws.{HoldsAfter}
 
 -- what an access to one place names, and where it leads
-pub record FixedAt (p : Program) (here : Here) (l : Layout) (r : Expr) (a : Place) : Type 0 where
+pub record FixedAt (p : Program) (l : Layout) (r : Expr) (a : Place) : Type 0 where
   pub var : ℕ
   pub parts : List Part
   pub reaches : List Reach
-  pub place : a ≡ place_of here var parts
+  pub place : a ≡ main_place var parts
   pub names : fixed_cells p r ≡ Some (named p var reaches)
   pub exact : Exactly reaches parts
   pub leads : parts_layout (Some (layout_of p var)) parts ≡ Some l
@@ -57,17 +54,20 @@ and_on : {A : Type 0} (P Q R : A → Type 0) (alarms : List Alarm) (v : Value A)
 and_on P Q R alarms (Gives a tape) h k f = f a h k
 and_on P Q R alarms (Stops e) h k f = h
 
-module _ (p : Program) (w : Setting) (F : OperatorFacts) (within : IsWithin p w) (here : Here) (store : Store) (time : ℤ) (env : Flat) (fair : AreIn (cells p) env.cells) (holds : Holds p env store time) where
-  fixed_led : (r : Expr) (l : Layout) → IsRead p l r → is_fixed_read r ≡ true → (tape : List ℤ) → Covers (FixedAt p here l r) (alarms_of p w env r) (read_place w here store r tape)
+module _ (p : Program) (w : Setting) (F : OperatorFacts) (within : IsWithin p w) (store : Store) (time : ℤ) (env : Flat) (fair : AreIn (cells p) env.cells) (holds : Holds p env store time) where
+  abbrev here : Here
+  here = main_here time
+
+  fixed_led : (r : Expr) (l : Layout) → IsRead p l r → is_fixed_read r ≡ true → (tape : List ℤ) → Covers (FixedAt p l r) (alarms_of p w env r) (read_place w here store r tape)
   unfolding read_place alarms_of fixed_cells
   fixed_led (Read' v n steps k) l t f tape =
-      then_covers (λ parts. (parts_layout (Some (layout_of p v)) parts ≡ Some l) × Fixed steps parts) (FixedAt p here l (Read' v n steps k)) (steps_alarms p w env steps) [] (steps_alarms p w env steps)
+      then_covers (λ parts. (parts_layout (Some (layout_of p v)) parts ≡ Some l) × Fixed steps parts) (FixedAt p l (Read' v n steps k)) (steps_alarms p w env steps) [] (steps_alarms p w env steps)
       (steps_value w here store steps tape) (λ parts tape. Gives (place_of here v parts) tape)
-      (and_on (StepsTaken p w F within here store env fair holds.cells steps (layout_of p v) l) (Fixed steps) _ (steps_alarms p w env steps) (steps_value w here store steps tape)
-      (steps_known p w F within here store env fair holds.cells steps (layout_of p v) l t.0 t.1 tape) (steps_exact w here store steps f tape) (λ parts s g. (s.1, g)))
+      (and_on (StepsTaken p w F within time store env fair holds.cells steps (layout_of p v) l) (Fixed steps) _ (steps_alarms p w env steps) (steps_value w here store steps tape)
+      (steps_known p w F within time store env fair holds.cells steps (layout_of p v) l t.0 t.1 tape) (steps_exact w here store steps f tape) (λ parts s g. (s.1, g)))
       (λ a m. m) (λ a m. absurd m) (λ parts tape s. at (fixed_reaches steps) parts refl s.0 s.1)
     where
-      at : (o : Option (List Reach)) (parts : List Part) → fixed_reaches steps ≡ o → parts_layout (Some (layout_of p v)) parts ≡ Some l → AliveAnd (λ rs. Exactly rs parts) o → FixedAt p here l (Read' v n steps k) (place_of here v parts)
+      at : (o : Option (List Reach)) (parts : List Part) → fixed_reaches steps ≡ o → parts_layout (Some (layout_of p v)) parts ≡ Some l → AliveAnd (λ rs. Exactly rs parts) o → FixedAt p l (Read' v n steps k) (place_of here v parts)
       at None parts e h x = absurd x
       at (Some rs) parts e h x = record { var = v; parts = parts; reaches = rs; place = refl; names = ap (λ (o : Option (List Reach)). option_map (named p v) o) e; exact = x; leads = h }
   fixed_led (Number n k) l t f tape = absurd t
@@ -75,14 +75,17 @@ module _ (p : Program) (w : Setting) (F : OperatorFacts) (within : IsWithin p w)
   fixed_led (Prefix' op q k n a) l t f tape = absurd t
   fixed_led (Cast' q k n a) l t f tape = absurd t
   fixed_led (Chain' n a m ls) l t f tape = absurd t
+  fixed_led (And' n a m rest) l t f tape = absurd t
+  fixed_led (Or' n a m rest) l t f tape = absurd t
+  fixed_led (Choice' n a m b j c k) l t f tape = absurd t
 
   abbrev copy_of : Option (List ℕ) → Option (List ℕ) → Option Flat
   copy_of o s = alive_then o (λ ks. alive_then s (λ ds. Some (with_cells env (change.copied (cells p) ks ds env.cells env.cells))))
 
-  copies : (r s : Expr) (l : Layout) (a b : Place) → FixedAt p here l r a → FixedAt p here l s b → HoldsAfter p time (copy_of (fixed_cells p r) (fixed_cells p s)) (copied a b store)
+  copies : (r s : Expr) (l : Layout) (a b : Place) → FixedAt p l r a → FixedAt p l s b → HoldsAfter p time (copy_of (fixed_cells p r) (fixed_cells p s)) (copied a b store)
   copies r s l a b x y =
       rw (x.names, y.names, x.place, y.place) (record {
-        cells = from_held (cells p) _ _ (copy_holds p here x.var y.var x.reaches y.reaches x.parts y.parts l x.exact y.exact x.leads y.leads store env.cells (to_held (cells p) env.cells store holds.cells));
+        cells = from_held (cells p) _ _ (copy_holds p x.var y.var x.reaches y.reaches x.parts y.parts l x.exact y.exact x.leads y.leads store env.cells (to_held (cells p) env.cells store holds.cells));
         clock = holds.clock;
       })
 
@@ -92,9 +95,9 @@ module _ (p : Program) (w : Setting) (F : OperatorFacts) (within : IsWithin p w)
   copy_sound k x q y tape t =
       let r = e.Read x I32 in
       let s = e.Read y I32 in
-      both_cover (FixedAt p here t.0 r) (λ st. HoldsAfter p time (copy_of (fixed_cells p r) (fixed_cells p s)) st) (alarms_of p w env r) (alarms_of p w env s) (read_place w here store r tape)
+      both_cover (FixedAt p t.0 r) (λ st. HoldsAfter p time (copy_of (fixed_cells p r) (fixed_cells p s)) st) (alarms_of p w env r) (alarms_of p w env s) (read_place w here store r tape)
       (λ a tape. then_value (read_place w here store s tape) (λ b tape. Gives (copied a b store) tape)) (fixed_led r t.0 t.1.typed t.1.fixed tape)
-      (λ a tape f. then_covers (FixedAt p here t.0 s) (λ st. HoldsAfter p time (copy_of (fixed_cells p r) (fixed_cells p s)) st) (alarms_of p w env s) [] (alarms_of p w env s) (read_place w here store s tape)
+      (λ a tape f. then_covers (FixedAt p t.0 s) (λ st. HoldsAfter p time (copy_of (fixed_cells p r) (fixed_cells p s)) st) (alarms_of p w env s) [] (alarms_of p w env s) (read_place w here store s tape)
       (λ b tape. Gives (copied a b store) tape) (fixed_led s t.0 t.2.typed t.2.fixed tape) (λ a m. m) (λ a m. absurd m) (λ b tape g. copies r s t.0 a b f g))
 
 -- ---- what it keeps
@@ -170,6 +173,9 @@ fixed_to p (Input k m) l t = absurd t
 fixed_to p (Prefix' op q k n a) l t = absurd t
 fixed_to p (Cast' q k n a) l t = absurd t
 fixed_to p (Chain' n a m ls) l t = absurd t
+fixed_to p (And' n a m rest) l t = absurd t
+fixed_to p (Or' n a m rest) l t = absurd t
+fixed_to p (Choice' n a m b j c k) l t = absurd t
 
 pub copy_keeps : (p : Program) (w : Setting) (m : ℤ) (env : Flat) → IsFair p m env → (k : ℕ) (x : Access) (q : Pos) (y : Access) → IsTypedSimple p (Copy k x q y) → IfAlive (IsFair p m) (simple_of p w (Copy k x q y) env)
 unfolding simple_of

@@ -1,8 +1,8 @@
 -- What is evaluated lies in its span, or its error is an alarm; and spans stay in their types.
-use Rattle.std.proofs.Common.{◌≡◌, ℕ, zero, suc, ◌+◌, ℤ, pos, negsuc, ◌≤ℤ◌, ◌<ℤ◌, Bool, true, false, ◌&&◌, List, [], ◌∷◌, ◌++◌, refl, sym, ap, subst, ◌∙◌, arith, Option, Some, None, inl, inr, append_assoc}
-use Rattle.std.specs.Prelude.{if◌then◌else◌, get_or, IsTrue, slice_get, length, not, ◌||◌, ◌==◌, nat_lt, unsigned_abs, Result, Ok, Err, IsSomeAnd, IfSome, option_map}
+use Rattle.std.proofs.Common.{◌≡◌, ℕ, zero, suc, ◌+◌, ℤ, pos, negsuc, ◌≤ℤ◌, Bool, true, false, ◌&&◌, List, [], ◌∷◌, ◌++◌, refl, sym, ap, subst, ◌∙◌, arith, Option, Some, None, inl, append_assoc}
+use Rattle.std.specs.Prelude.{if◌then◌else◌, get_or, IsTrue, slice_get, not, ◌||◌, ◌==◌, nat_lt, unsigned_abs, Result, Ok, Err, IsSomeAnd, IfSome, option_map}
 use Rattle.std.specs.Int.RustNames.{int_le, int_lt}
-use Rattle.std.proofs.lemmas.Int.{ints, clamps}
+use Rattle.std.proofs.lemmas.Int.{ints}
 use Rattle.std.proofs.lemmas.Bool.Decides.{nat_tests}
 use Rattle.sa_base.specs.Numbers.{num_lo, num_hi}
 use Rattle.sa_base.specs.declared.num.Num.{Num}
@@ -10,38 +10,37 @@ use Rattle.sa_base.specs.declared.pos.Pos.{Pos}
 use Rattle.sa_base.specs.declared.alarm.Alarm.{Alarm}
 use Rattle.sa_base.specs.declared.alarm.Kind.{Kind}
 use Rattle.sa_base.specs.declared.alarm.Kind.TheVariants.{Index}
-use Rattle.sa_interval.specs.Span.{Span, Within, IsPart}
+use Rattle.sa_interval.specs.Span.{Span, Within}
 use Rattle.sa_interval.specs.Rows.{single, join_of, meet_of, is_part}
 use Rattle.sa_typed.specs.Arithmetic.{is_signed, is_of, operate, prefixed, converted, result_type, prefix_type}
-use Rattle.sa_typed.specs.Layouts.{Layout, leaf, row, fields, step_into, nth_field, layout_of}
-use Rattle.sa_typed.specs.Evaluation.{Setting, Range, Value, Gives, Stops, End, Error, Blocked, Tape, Here, Store, then_value, given, read, is_in, range_of, checked_index, place_of, eval, links_value, steps_value, step_value, read_place, access_place}
+use Rattle.sa_typed.specs.Layouts.{Layout, leaf, row, fields, step_into, layout_of}
+use Rattle.sa_typed.specs.Evaluation.{Setting, Range, Value, Gives, Stops, Error, Blocked, Here, Store, then_value, given, read, is_in, range_of, checked_index, place_of, eval, links_value, steps_value, step_value}
 use Rattle.sa_typed.specs.Cells.{Cell, cells}
-use Rattle.sa_typed.specs.WellTyped.{type_of, links_type, converts, right_converts, typed_step, into, steps_layout, num_of_input, IsLink, IsTypedExpr, AreTypedLinks, AreTypedSteps, IsTypedStep, IsRead}
-use Rattle.sa_typed.specs.declared.expr.Expr.{Expr, Number, Read', Input, Prefix', Cast', Chain', end_of-Expr, more_of-Expr, Row_of-Link, end_of-Link, more_of-Link, Row_of-Step, end_of-Step, more_of-Step}
+use Rattle.sa_typed.specs.WellTyped.{type_of, links_type, converts, right_converts, typed_step, into, steps_layout, num_of_input, IsLink, IsTypedExpr, AreTypedLinks, AreTypedSteps, IsTypedStep}
+use Rattle.sa_typed.specs.declared.expr.Expr.{Expr, Number, Read', Input, Prefix', Cast', Chain', And', Or', Choice', end_of-Expr, more_of-Expr, Row_of-Link, end_of-Link, more_of-Link, Row_of-Step, end_of-Step, more_of-Step}
 use Rattle.sa_typed.specs.declared.expr.Step.{Step, At', Field}
 use Rattle.sa_typed.specs.declared.expr.Operator.{Operator}
 use Rattle.sa_typed.specs.declared.expr.Operator.TheVariants as o
 use Rattle.sa_typed.specs.declared.shape.Part.{Part}
 use Rattle.sa_typed.specs.declared.shape.Part.TheVariants as part
 use Rattle.sa_typed.specs.declared.program.Input as program
-use Rattle.sa_typed.specs.declared.program.Place.{Place}
 use Rattle.sa_typed.specs.declared.program.Program.{Program}
 use Rattle.sa_reference.specs.declared.flat.Flat.{Flat}
 use Rattle.sa_reference.specs.declared.reach.Reach.{Reach}
 use Rattle.sa_reference.specs.declared.reach.Reach.TheVariants as reach
 use Rattle.sa_reference.specs.Passes.{alive_then}
-use Rattle.sa_operators.specs.Operators.{IsIn, alarm_if, converted_span, conversion_alarms, operator_span, operator_alarms, prefix_span, prefix_alarms}
+use Rattle.sa_operators.specs.Operators.{IsIn, converted_span, conversion_alarms, operator_span, operator_alarms, prefix_span, prefix_alarms}
 use Rattle.sa_operators.specs.OperatorLaws.{Suits, SuitsRight, IsSmallSpan, TypesAreSmall, OwnTypeSuits, UnsignedSuits, ConversionsCover, OperatorsCover, PrefixesCover, ConversionsStay, OperatorsStay, PrefixesStay}
 use Rattle.sa_operators.specs.OperatorLaws as laws
 use Rattle.sa_reference.specs.Environments.{AllHold}
 use Rattle.sa_reference.specs.Fair.{AreIn}
 use Rattle.sa_reference.specs.Values.{indices, named, named_from, cell_span, joined, input_span, with_one, with_both, linked, index_reach, span_of, links_span, reaches_of, reach_of, index_alarms, alarms_of, links_alarms, steps_alarms, step_alarms, reaches}
-use Rattle.sa_reference.specs.Sound.{IsAmong, IsCovered, AliveAnd, IsWithin}
-use Rattle.sa_reference.proofs.Laws.{IfAlive, Covers}
+use Rattle.sa_reference.specs.Sound.{IsAmong, AliveAnd, IsWithin}
+use Rattle.sa_reference.proofs.Laws.{IfAlive, Covers, main_here}
 use Rattle.sa_reference.proofs.StepLaws.{among_left, among_right}
 use Rattle.sa_reference.proofs.RunLaws.{covered_more}
-use Rattle.sa_reference.proofs.SpanLaws.{part_test, meet_some, meet_meets, Meets, single_within, join_in, le_test, le_fact, and_left, and_right, both_true}
-use Rattle.sa_reference.proofs.CellLaws.{parts_layout, Matches, MatchesStep, AnyOf, AllOf, IsAt, place_cell, read_within, Tail, tail_next, tail_head, reaches_layout, HasNum, cells_num, of_program}
+use Rattle.sa_reference.proofs.SpanLaws.{meet_some, single_within, join_in, le_fact, and_left, and_right}
+use Rattle.sa_reference.proofs.CellLaws.{parts_layout, Matches, MatchesStep, AllOf, place_cell, read_within, Tail, tail_next, tail_head, reaches_layout, HasNum, cells_num, of_program}
 
 -- what is known of operators and conversions
 pub record OperatorFacts : Type 0 where
@@ -345,13 +344,19 @@ module _ (p : Program) (w : Setting) (F : OperatorFacts) (within : IsWithin p w)
     span_in (Prefix' op q num n (more_of-Expr a end_of-Expr)) t = prefix_in F op (type_of a) num (span_of p w env a) t.1 (span_in a t.0)
     span_in (Cast' q num n (more_of-Expr a end_of-Expr)) t = convert_in F (type_of a) num (span_of p w env a) (span_in a t)
     span_in (Chain' n (more_of-Expr a end_of-Expr) m ls) t = links_in ls (type_of a) (span_of p w env a) t.1 (span_in a t.0)
+    span_in (And' n a m rest) t = absurd t
+    span_in (Or' n a m rest) t = absurd t
+    span_in (Choice' n a m b l c num) t = absurd t
 
     pub links_in : {n : _} (ls : Row_of-Link n) (left : Num) (o : Option Span) → AreTypedLinks p left ls → IfAlive (λ s. IsIn left s) o → IfAlive (λ s. IsIn (links_type left ls) s) (links_span p w env ls o)
     links_in end_of-Link left o t h = h
     links_in (more_of-Link op q work b rest) left o t h =
         links_in rest (result_type op work) (linked op work o (span_of p w env b)) t.1.1 (link_in F op left work (type_of b) o (span_of p w env b) t.1.0 h (span_in b t.0))
 
-module _ (p : Program) (w : Setting) (F : OperatorFacts) (within : IsWithin p w) (here : Here) (store : Store) (env : Flat) (fair : AreIn (cells p) env.cells) (holds : AllHold (cells p) env.cells store) where
+module _ (p : Program) (w : Setting) (F : OperatorFacts) (within : IsWithin p w) (time : ℤ) (store : Store) (env : Flat) (fair : AreIn (cells p) env.cells) (holds : AllHold (cells p) env.cells store) where
+  abbrev here : Here
+  here = main_here time
+
   -- the parts that steps give are among those that an access may take
   abbrev pub StepsTaken : {n : _} → Row_of-Step n → Layout → Layout → List Part → Type 0
   StepsTaken r m l parts = AliveAnd (λ rs. Matches rs parts) (reaches_of p w env r) × (parts_layout (Some m) parts ≡ Some l)
@@ -423,6 +428,9 @@ module _ (p : Program) (w : Setting) (F : OperatorFacts) (within : IsWithin p w)
         (λ x tape i. convert_covers F q (type_of a) num (span_of p w env a) x tape (span_in p w F within env fair a t) i)
     known (Chain' n (more_of-Expr a end_of-Expr) m ls) t tape =
         links_known ls (type_of a) (span_of p w env a) (alarms_of p w env a) (eval w here store a tape) t.1 (span_in p w F within env fair a t.0) (known a t.0 tape)
+    known (And' n a m rest) t tape = absurd t
+    known (Or' n a m rest) t tape = absurd t
+    known (Choice' n a m b l c num) t tape = absurd t
 
     links_known : {n : _} (ls : Row_of-Link n) (left : Num) (o : Option Span) (some : List Alarm) (v : Value ℤ) → AreTypedLinks p left ls → IfAlive (λ s. IsIn left s) o → Covers (InSpan o) some v →
         Covers (InSpan (links_span p w env ls o)) (some ++ links_alarms p w env ls o) (links_value w here store ls v)

@@ -1,12 +1,13 @@
 -- What statements make of environments, and what checking mode finds in them. States don't know the mode.
 -- A block keeps a list of environments apart to its end (trace partitioning: Rival and Mauborgne 2007), at most 16.
-use Rattle.std.specs.Prelude.{ℕ, Bool, true, false, List, [], ◌∷◌, ◌++◌, Option, Some, None, if◌then◌else◌, nat_le, length}
+use Rattle.std.specs.Prelude.{ℕ, List, [], ◌∷◌, ◌++◌, Option, Some, None, if◌then◌else◌, nat_le, length}
 use Rattle.sa_base.specs.declared.pos.Pos.{Pos}
 use Rattle.sa_base.specs.declared.alarm.Alarm.{Alarm}
+use Rattle.sa_typed.specs.declared.stmt.LoopKind.TheVariants as kind
 use Rattle.sa_typed.specs.declared.stmt.Stmt.{Stmt, Row_of-Stmt, end_of-Stmt, more_of-Stmt}
 use Rattle.sa_typed.specs.Executions.{Loop}
 use Rattle.sa_reference.specs.Domain.{Domain}
-use Rattle.sa_reference.specs.Passes.{Facts, facts_of, alive_then}
+use Rattle.sa_reference.specs.Passes.{Facts, facts_of}
 
 -- the stable state of a loop and its passes
 pub record Record (Env : Type 0) : Type 0 where
@@ -76,9 +77,9 @@ module _ (D : Domain) where
   broken_over go [] = None
   broken_over go (e ∷ es) = either (go e).broken (broken_over go es)
 
-  -- one turn of the clock loop, by what its block makes of an environment
+  -- one turn of the clock loop, by what its body makes of an environment; the wait stands in the body
   abbrev pub clock_turn_of : (D.Env → Exits D.Env) → D.Env → Option D.Env
-  clock_turn_of body e = alive_then (merged (body e).ends) D.tick
+  clock_turn_of body e = merged (body e).ends
 
   -- the clock loop from its entry
   abbrev pub clock_facts : (D.Env → Exits D.Env) → D.Env → Facts D.Env
@@ -90,8 +91,11 @@ module _ (D : Domain) where
     after (Stmt.Block' n all) path env =
         let x = after_all all path (env ∷ []) in
         record { ends = list_of (merged x.ends); broken = x.broken }
+    after Stmt.Wait path env = goes_on (D.tick env)
     -- nothing leaves the clock loop
-    after (Stmt.Clock' q n all) path env = goes_on None
+    after (Stmt.Loop' q kind.Clock None n (more_of-Stmt body end_of-Stmt) None) path env = goes_on None
+    -- typing gives no other form yet
+    after _ path env = goes_on (Some env)
 
     pub after_all : {n : _} → Row_of-Stmt n → List Pos → List D.Env → Exits D.Env
     after_all end_of-Stmt path es = record { ends = es; broken = None }
@@ -107,8 +111,10 @@ module _ (D : Domain) where
     pub found : Stmt → List Pos → D.Env → Found D.Env
     found (Stmt.Simple s) path env = only (D.simple_alarms s env)
     found (Stmt.Block' n all) path env = found_all all path (env ∷ [])
-    found (Stmt.Clock' q n all) path env =
-        loop_found (record { path = path; place = q }) (λ r. found_all all path (r ∷ [])) (clock_facts (λ e. after_all all path (e ∷ [])) env)
+    found (Stmt.Loop' q kind.Clock None n (more_of-Stmt body end_of-Stmt) None) path env =
+        loop_found (record { path = path; place = q }) (λ r. found body path r) (clock_facts (λ e. after body path e) env)
+    -- in a wait there is nothing, and typing gives no other form yet
+    found _ path env = nothing
 
     pub found_all : {n : _} → Row_of-Stmt n → List Pos → List D.Env → Found D.Env
     found_all end_of-Stmt path es = nothing

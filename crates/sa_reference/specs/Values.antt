@@ -1,6 +1,6 @@
 -- What an expression is in an environment: an interval of its numbers, none where it has no value, and the alarms that
 -- checking mode finds. Operations go by the intervals of their operands alone (Cousot and Cousot 1977).
-use Rattle.std.specs.Prelude.{ℕ, ◌+◌, ◌-ℤ◌, ◌==◌, ℤ, pos, List, [], ◌∷◌, ◌++◌, Bool, true, false, ◌&&◌, if◌then◌else◌, get_or, length, Option, Some, None, option_map}
+use Rattle.std.specs.Prelude.{ℕ, ◌+◌, ◌-ℤ◌, ◌==◌, pos, List, [], ◌∷◌, ◌++◌, Bool, true, false, ◌&&◌, if◌then◌else◌, get_or, Option, Some, None, option_map}
 use Rattle.std.specs.Int.RustNames.{int_le}
 use Rattle.sa_base.specs.declared.num.Num.{Num}
 use Rattle.sa_base.specs.declared.num.Num.TheVariants.{I32}
@@ -14,7 +14,7 @@ use Rattle.sa_typed.specs.Evaluation as concrete
 use Rattle.sa_typed.specs.Constants.{fixed_index}
 use Rattle.sa_typed.specs.Cells.{Cell, one, all, of, cells}
 use Rattle.sa_typed.specs.Cells as cell
-use Rattle.sa_typed.specs.declared.expr.Expr.{Expr, Number, Read', Input, Prefix', Cast', Chain', end_of-Expr, more_of-Expr, Row_of-Link, end_of-Link, more_of-Link, Row_of-Step, end_of-Step, more_of-Step}
+use Rattle.sa_typed.specs.declared.expr.Expr.{Expr, Number, Read', Input, Prefix', Cast', Chain', And', Or', Choice', end_of-Expr, more_of-Expr, Row_of-Link, end_of-Link, more_of-Link, Row_of-Step, end_of-Step, more_of-Step}
 use Rattle.sa_typed.specs.declared.expr.Expr.TheVariants as e
 use Rattle.sa_typed.specs.declared.expr.Access.{Access}
 use Rattle.sa_typed.specs.declared.expr.Operator.{Operator}
@@ -86,6 +86,10 @@ unfoldable mutual
   span_of p w env (Prefix' op q num n (more_of-Expr a end_of-Expr)) = alive_then (span_of p w env a) (prefix_span op num)
   span_of p w env (Cast' q num n (more_of-Expr a end_of-Expr)) = alive_then (span_of p w env a) (converted_span num)
   span_of p w env (Chain' n (more_of-Expr a end_of-Expr) m ls) = links_span p w env ls (span_of p w env a)
+  -- typing gives none of these yet
+  span_of p w env (And' n a m rest) = None
+  span_of p w env (Or' n a m rest) = None
+  span_of p w env (Choice' n a m b l c num) = None
 
   -- operators from left to right, from the value so far
   pub links_span : {n : _} → Program → Setting → Flat → Row_of-Link n → Option Span → Option Span
@@ -113,6 +117,10 @@ unfoldable mutual
   alarms_of p w env (Prefix' op q num n (more_of-Expr a end_of-Expr)) = alarms_of p w env a ++ with_one (span_of p w env a) (prefix_alarms op q num)
   alarms_of p w env (Cast' q num n (more_of-Expr a end_of-Expr)) = alarms_of p w env a ++ with_one (span_of p w env a) (conversion_alarms num q)
   alarms_of p w env (Chain' n (more_of-Expr a end_of-Expr) m ls) = alarms_of p w env a ++ links_alarms p w env ls (span_of p w env a)
+  -- typing gives none of these yet
+  alarms_of p w env (And' n a m rest) = []
+  alarms_of p w env (Or' n a m rest) = []
+  alarms_of p w env (Choice' n a m b l c num) = []
 
   pub links_alarms : {n : _} → Program → Setting → Flat → Row_of-Link n → Option Span → List Alarm
   links_alarms p w env end_of-Link o = []

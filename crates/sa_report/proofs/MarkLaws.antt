@@ -29,14 +29,19 @@ use Rattle.sa_typed.specs.declared.expr.Step.{Step, At', Field}
 use Rattle.sa_typed.specs.declared.expr.Step.TheVariants as step
 use Rattle.sa_typed.specs.declared.program.Func.{Func}
 use Rattle.sa_typed.specs.declared.program.Program.{Program}
+use Rattle.sa_typed.specs.declared.stmt.LoopKind.{LoopKind}
+use Rattle.sa_typed.specs.declared.stmt.LoopKind.TheVariants as kind
 use Rattle.sa_typed.specs.declared.stmt.Simple.{Simple}
 use Rattle.sa_typed.specs.declared.stmt.Simple.TheVariants as simple
 use Rattle.sa_typed.specs.declared.stmt.Start.{Start}
 use Rattle.sa_typed.specs.declared.stmt.Start.TheVariants as begins
-use Rattle.sa_typed.specs.declared.stmt.Stmt.{Stmt, Row_of-Stmt, end_of-Stmt, more_of-Stmt, items-the_row-Stmt, items_hidden-the_row-Stmt-0}
+use Rattle.sa_typed.specs.declared.stmt.Stmt as statement
+use Rattle.sa_typed.specs.declared.stmt.Stmt.{Stmt, Row_of-Stmt, end_of-Stmt, more_of-Stmt, items-the_row-Stmt, items_hidden-the_row-Stmt-0, roll-out-Stmt}
 use Rattle.sa_typed.specs.declared.stmt.Stmt.TheVariants as stmt
+use Rattle.sa_typed.specs.declared.stmt.Stmt.TheVariants.{rolls-Block}
 use Rattle.sa_typed.proofs.LinkLaws.{prefix_typed, cast_typed, chain_typed}
 use Rattle.sa_iterate.specs.Analysis.{body_in, main_body}
+use Rattle.sa_iterate.proofs.TypedForms.{clock_is}
 use Rattle.sa_reference.specs.declared.reach.Reach.{Reach}
 use Rattle.sa_reference.specs.declared.reach.Reach.TheVariants as reach
 use Rattle.sa_reference.specs.Passes.{alive_then}
@@ -264,7 +269,6 @@ steps_of _ = (_, end_of-Step)
 
 abbrev pub stmts_of : Stmt → (n : _) × Row_of-Stmt n
 stmts_of (Stmt.Block' n r) = (_, r)
-stmts_of (Stmt.Clock' q n r) = (_, r)
 stmts_of _ = (_, end_of-Stmt)
 
 module _ (cs : List Cell) where
@@ -335,6 +339,18 @@ module _ (cs : List Cell) where
   unfolding by_step in_expr
   step_into f bs = marked-none cs bs
 
+  pub expr_and : (a : Expr) (es : List Expr) (bs : List Bool) → by_expr cs (v.And a es) bs ≡ bs
+  unfolding by_expr in_expr Rattle.sa_typed.specs.declared.expr.Expr.TheBlock.hidden-the_row-Expr-1 denote.Hole.Carrier.hidden
+  expr_and a es bs = marked-none cs bs
+
+  pub expr_or : (a : Expr) (es : List Expr) (bs : List Bool) → by_expr cs (v.Or a es) bs ≡ bs
+  unfolding by_expr in_expr Rattle.sa_typed.specs.declared.expr.Expr.TheBlock.hidden-the_row-Expr-1 denote.Hole.Carrier.hidden
+  expr_or a es bs = marked-none cs bs
+
+  pub expr_choice : (a b d : Expr) (num : Num) (bs : List Bool) → by_expr cs (v.Choice a b d num) bs ≡ bs
+  unfolding by_expr in_expr Rattle.sa_typed.specs.declared.expr.Expr.TheBlock.hidden-the_row-Expr-1 denote.Hole.Carrier.hidden
+  expr_choice a b d num bs = marked-none cs bs
+
   -- ---- statements
   pub start_any : (bs : List Bool) → by_start cs begins.Any bs ≡ bs
   unfolding by_start
@@ -375,20 +391,28 @@ module _ (cs : List Cell) where
       let row = stmts_of (stmt.Block ss) in
       stmts-row row.0 row.1 bs ∙ ap (λ (xs : List Stmt). by_stmts cs xs bs) (items_hidden-the_row-Stmt-0 ss)
 
-  clock_body : (q : Pos) (ss : List Stmt) (bs : List Bool) → marked (λ c. in_stmts c (stmts_of (stmt.Clock q ss)).1) cs bs ≡ by_stmts cs ss bs
-  clock_body q ss bs =
-      let row = stmts_of (stmt.Clock q ss) in
-      stmts-row row.0 row.1 bs ∙ ap (λ (xs : List Stmt). by_stmts cs xs bs) (items_hidden-the_row-Stmt-0 ss)
+  stmt_clock : (q : Pos) (body : Stmt) (bs : List Bool) → by_stmt cs (stmt.Loop q kind.Clock None body None) bs ≡ by_stmt cs body bs
+  unfolding by_stmt in_stmt Rattle.sa_typed.specs.declared.stmt.Stmt.TheBlock.hidden-the_row-Stmt-1 denote.Hole.Carrier.hidden
+  stmt_clock q body bs = refl
 
-  pub stmt_clock : (q : Pos) (ss : List Stmt) (bs : List Bool) → by_stmt cs (stmt.Clock q ss) bs ≡ by_stmts cs ss bs
-  unfolding by_stmt in_stmt
-  stmt_clock q ss bs = clock_body q ss bs
+  -- of any other form
+  pub stmt-none : (s : Stmt) (bs : List Bool) → ((x : Simple) → s ≡ stmt.Simple x → ⊥) → ((ss : List Stmt) → s ≡ stmt.Block ss → ⊥) →
+      ((q : Pos) (k : LoopKind) (c : Option Expr) (body : Stmt) (x : Option Simple) → s ≡ stmt.Loop q k c body x → ⊥) → by_stmt cs s bs ≡ bs
+  unfolding by_stmt in_stmt Rattle.sa_typed.specs.declared.stmt.Stmt.TheBlock.hidden-the_row-Stmt-1 denote.Hole.Carrier.hidden statement.out-Stmt statement.roll-Stmt denote.Hole.Carrier.out
+  stmt-none (Stmt.Simple x) bs simple block loop = absurd (simple x refl)
+  stmt-none (Stmt.Block' n ss) bs simple block loop = absurd (block _ (sym (roll-out-Stmt (Stmt.Block' n ss)) ∙ rolls-Block _))
+  stmt-none (Stmt.Loop' q k c n (more_of-Stmt body end_of-Stmt) x) bs simple block loop = absurd (loop q k c body x refl)
+  stmt-none _ bs simple block loop = marked-none cs bs
 
   -- ---- loops
   module _ (q : Pos) where
-    pub loop_simple : (s : Simple) (bs : List Bool) → by_loop q cs (stmt.Simple s) bs ≡ bs
-    unfolding by_loop in_loop
-    loop_simple s bs = marked-none cs bs
+    -- of any other form than blocks and loops
+    pub loop-none : (s : Stmt) (bs : List Bool) → ((ss : List Stmt) → s ≡ stmt.Block ss → ⊥) →
+        ((r : Pos) (k : LoopKind) (c : Option Expr) (body : Stmt) (x : Option Simple) → s ≡ stmt.Loop r k c body x → ⊥) → by_loop q cs s bs ≡ bs
+    unfolding by_loop in_loop Rattle.sa_typed.specs.declared.stmt.Stmt.TheBlock.hidden-the_row-Stmt-1 denote.Hole.Carrier.hidden statement.out-Stmt statement.roll-Stmt denote.Hole.Carrier.out
+    loop-none (Stmt.Block' n ss) bs block loop = absurd (block _ (sym (roll-out-Stmt (Stmt.Block' n ss)) ∙ rolls-Block _))
+    loop-none (Stmt.Loop' r k c n (more_of-Stmt body end_of-Stmt) x) bs block loop = absurd (loop r k c body x refl)
+    loop-none _ bs block loop = marked-none cs bs
 
     pub loop_block : (ss : List Stmt) (bs : List Bool) → by_loop q cs (stmt.Block ss) bs ≡ by_loops q cs ss bs
     unfolding by_loop in_loop
@@ -396,18 +420,13 @@ module _ (cs : List Cell) where
         let row = stmts_of (stmt.Block ss) in
         loops-row q row.0 row.1 bs ∙ ap (λ (xs : List Stmt). by_loops q cs xs bs) (items_hidden-the_row-Stmt-0 ss)
 
-    pub loop_here : (r : Pos) (ss : List Stmt) (bs : List Bool) → same_pos r q ≡ true → by_loop q cs (stmt.Clock r ss) bs ≡ by_stmts cs ss bs
-    unfolding by_loop in_loop
-    loop_here r ss bs h =
-        let row = stmts_of (stmt.Clock r ss) in
-        ap (λ (t : Bool). marked (λ c. if t then in_stmts c row.1 else in_loops q c row.1) cs bs) h ∙ clock_body r ss bs
-
-    pub loop_other : (r : Pos) (ss : List Stmt) (bs : List Bool) → same_pos r q ≡ false → by_loop q cs (stmt.Clock r ss) bs ≡ by_loops q cs ss bs
-    unfolding by_loop in_loop
-    loop_other r ss bs h =
-        let row = stmts_of (stmt.Clock r ss) in
-        ap (λ (t : Bool). marked (λ c. if t then in_stmts c row.1 else in_loops q c row.1) cs bs) h
-        ∙ loops-row q row.0 row.1 bs ∙ ap (λ (xs : List Stmt). by_loops q cs xs bs) (items_hidden-the_row-Stmt-0 ss)
+    loop_clock : (r : Pos) (body : Stmt) (bs : List Bool) → by_loop q cs (stmt.Loop r kind.Clock None body None) bs ≡ (if same_pos r q then by_stmt cs body bs else by_loop q cs body bs)
+    unfolding by_loop by_stmt in_loop Rattle.sa_typed.specs.declared.stmt.Stmt.TheBlock.hidden-the_row-Stmt-1 denote.Hole.Carrier.hidden
+    loop_clock r body bs =
+        elim (same_pos r q) as (λ t. marked (λ c. if t then in_stmt c body else in_loop q c body) cs bs ≡ (if t then marked (λ c. in_stmt c body) cs bs else marked (λ c. in_loop q c body) cs bs)) [
+          | true ↦ refl
+          | false ↦ refl
+        ]
 
   -- ---- lists one after another
   pub links-more : (whole bs new : List Bool) (ls : List Link) (i : ℕ) (l : Link) → i < length ls → l ≡ get_or ls i l → new ≡ by_expr cs (out-Link l).operand bs →
@@ -525,15 +544,23 @@ module _ (p : Program) where
       let row = stmts_of (stmt.Block ss) in
       All-same (IsTypedStmt p) ss (items-the_row-Stmt row.0 row.1) (sym (items_hidden-the_row-Stmt-0 ss)) (stmts-typed row.0 row.1 (subst (IsTypedStmt p) is t))
 
-  pub has_clock : (s : Stmt) (q : Pos) (ss : List Stmt) → s ≡ stmt.Clock q ss → IsTypedStmt p s → All (IsTypedStmt p) ss
-  unfolding IsTypedStmt
-  has_clock s q ss is t =
-      let row = stmts_of (stmt.Clock q ss) in
-      All-same (IsTypedStmt p) ss (items-the_row-Stmt row.0 row.1) (sym (items_hidden-the_row-Stmt-0 ss)) (stmts-typed row.0 row.1 (subst (IsTypedStmt p) is t))
+  -- of a loop, which typing gives as the clock loop alone
+  module _ (s : Stmt) (q : Pos) (k : LoopKind) (c : Option Expr) (body : Stmt) (x : Option Simple) (is : s ≡ stmt.Loop q k c body x) (t : IsTypedStmt p s) (cs : List Cell) (bs : List Bool) where
+    pub in-clock : by_stmt cs s bs ≡ by_stmt cs body bs
+    in-clock = ap (λ (s : Stmt). by_stmt cs s bs) (clock_is p s q k c body x is t) ∙ stmt_clock cs q body bs
+
+    in-either : (r : Pos) → by_loop r cs s bs ≡ (if same_pos q r then by_stmt cs body bs else by_loop r cs body bs)
+    in-either r = ap (λ (s : Stmt). by_loop r cs s bs) (clock_is p s q k c body x is t) ∙ loop_clock cs r q body bs
+
+    pub in-this : (r : Pos) → same_pos q r ≡ true → by_loop r cs s bs ≡ by_stmt cs body bs
+    in-this r h = in-either r ∙ ap (λ (t : Bool). if t then by_stmt cs body bs else by_loop r cs body bs) h
+
+    pub in-inner : (r : Pos) → same_pos q r ≡ false → by_loop r cs s bs ≡ by_loop r cs body bs
+    in-inner r h = in-either r ∙ ap (λ (t : Bool). if t then by_stmt cs body bs else by_loop r cs body bs) h
 
 pub ruleset of_named = (each-named, none-named)
 
-pub ruleset of_forms = (expr_number, expr_input, expr_read, expr_prefix, expr_cast, expr_chain, access_steps, step_index, step_into, links-more, links-end, steps-more, steps-end, has_read, has_prefix, has_cast, has_first, has_links, has_index)
+pub ruleset of_forms = (expr_number, expr_input, expr_read, expr_prefix, expr_cast, expr_chain, expr_and, expr_or, expr_choice, access_steps, step_index, step_into, links-more, links-end, steps-more, steps-end, has_read, has_prefix, has_cast, has_first, has_links, has_index)
 
 pub ruleset of_stmts = (
   start_any,
@@ -545,7 +572,6 @@ pub ruleset of_stmts = (
   simple_copy,
   stmt_simple,
   stmt_block,
-  stmt_clock,
   stmts-more,
   stmts-end,
   has_value,
@@ -557,10 +583,9 @@ pub ruleset of_stmts = (
   has_copied,
   has_simple,
   has_block,
-  has_clock,
 )
 
-pub ruleset of_loops = (loop_simple, loop_block, loop_here, loop_other, loops-more, loops-end, has_simple, has_block, has_clock)
+pub ruleset of_loops = (loop_block, loops-more, loops-end, has_simple, has_block)
 
 -- ---- main
 pub main-block : (p : Program) → main_of p ≡ stmt.Block (main_body p)

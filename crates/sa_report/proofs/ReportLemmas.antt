@@ -12,9 +12,13 @@ use Rattle.sa_typed.specs.Evaluation.{Setting}
 use Rattle.sa_typed.specs.Executions.{same_pos, main_of}
 use Rattle.sa_typed.specs.Lines.{CellIn}
 use Rattle.sa_typed.specs.declared.program.Program.{Program}
+use Rattle.sa_typed.specs.declared.expr.Expr.{Expr}
+use Rattle.sa_typed.specs.declared.stmt.LoopKind.{LoopKind}
 use Rattle.sa_typed.specs.declared.stmt.Simple.{Simple}
-use Rattle.sa_typed.specs.declared.stmt.Stmt.{Stmt, Row_of-Stmt, end_of-Stmt, more_of-Stmt, items-the_row-Stmt, items_hidden-the_row-Stmt-0}
+use Rattle.sa_typed.specs.declared.stmt.Stmt as statement
+use Rattle.sa_typed.specs.declared.stmt.Stmt.{Stmt, Row_of-Stmt, end_of-Stmt, more_of-Stmt, items-the_row-Stmt, items_hidden-the_row-Stmt-0, roll-out-Stmt}
 use Rattle.sa_typed.specs.declared.stmt.Stmt.TheVariants as stmt
+use Rattle.sa_typed.specs.declared.stmt.Stmt.TheVariants.{rolls-Block}
 use Rattle.sa_reference.specs.declared.flat.Flat.{Flat}
 use Rattle.sa_reference.specs.Environments.{zip}
 use Rattle.sa_reference.specs.Intervals.{intervals}
@@ -218,21 +222,24 @@ module _ (p : Program) (f : Found Flat) where
   text-row n end_of-Stmt = refl
   text-row n (more_of-Stmt s rest) = ap (λ (x : List ℕ). stmt_text p f s ++ x) (text-row _ rest)
 
-  pub text-simple : (s : Simple) → stmt_text p f (stmt.Simple s) ≡ []
-  unfolding stmt_text
-  text-simple s = refl
-
   pub text-block : (ss : List Stmt) → stmt_text p f (stmt.Block ss) ≡ all_text p f ss
   unfolding stmt_text
   text-block ss =
       let row = stmts_of (stmt.Block ss) in
       text-row row.0 row.1 ∙ ap (all_text p f) (items_hidden-the_row-Stmt-0 ss)
 
-  pub text-clock : (q : Pos) (ss : List Stmt) → stmt_text p f (stmt.Clock q ss) ≡ loop_text p q (record_at (intervals p (widest p)) f.records (record { path = []; place = q })) ++ all_text p f ss
-  unfolding stmt_text
-  text-clock q ss =
-      let row = stmts_of (stmt.Clock q ss) in
-      ap (λ (x : List ℕ). loop_text p q (record_at (intervals p (widest p)) f.records (record { path = []; place = q })) ++ x) (text-row row.0 row.1 ∙ ap (all_text p f) (items_hidden-the_row-Stmt-0 ss))
+  pub text-loop : (q : Pos) (k : LoopKind) (c : Option Expr) (body : Stmt) (x : Option Simple) →
+      stmt_text p f (stmt.Loop q k c body x) ≡ loop_text p q (record_at (intervals p (widest p)) f.records (record { path = []; place = q })) ++ stmt_text p f body
+  unfolding stmt_text Rattle.sa_typed.specs.declared.stmt.Stmt.TheBlock.hidden-the_row-Stmt-1 denote.Hole.Carrier.hidden
+  text-loop q k c body x = refl
+
+  -- of a form without loops in it
+  pub text-none : (s : Stmt) → ((all : List Stmt) → s ≡ stmt.Block all → ⊥) →
+      ((q : Pos) (k : LoopKind) (c : Option Expr) (body : Stmt) (x : Option Simple) → s ≡ stmt.Loop q k c body x → ⊥) → stmt_text p f s ≡ []
+  unfolding stmt_text Rattle.sa_typed.specs.declared.stmt.Stmt.TheBlock.hidden-the_row-Stmt-1 denote.Hole.Carrier.hidden statement.out-Stmt statement.roll-Stmt denote.Hole.Carrier.out
+  text-none (Stmt.Block' n all) block loop = absurd (block _ (sym (roll-out-Stmt (Stmt.Block' n all)) ∙ rolls-Block _))
+  text-none (Stmt.Loop' q k c n (more_of-Stmt body end_of-Stmt) x) block loop = absurd (loop q k c body x refl)
+  text-none _ block loop = refl
 
   pub text-passed : (ss : List Stmt) (i : ℕ) (s : Stmt) (old new whole : List ℕ) → i < length ss → s ≡ get_or ss i s → new ≡ old ++ stmt_text p f s → old ++ all_text p f (drop i ss) ≡ whole → new ++ all_text p f (drop (i + 1) ss) ≡ whole
   unfolding all_text
@@ -280,9 +287,9 @@ unfolding record_of
 loop-some p q fs o f old new e n t =
     t ∙ ap (λ (r : Option (Record Flat)). old ++ loop_text p q r) (sym (ap (option_map record_of) n) ∙ ap (option_map record_of) e ∙ record-is p (widest p) q fs)
 
--- the two parts of a clock loop
-pub clock-whole : (p : Program) (f : Found Flat) (q : Pos) (s : Stmt) (ss xs : List Stmt) (old a d : List ℕ) → s ≡ stmt.Clock q ss → xs ≡ ss →
-    a ≡ old ++ loop_text p q (record_at (intervals p (widest p)) f.records (record { path = []; place = q })) → d ≡ a ++ all_text p f xs → d ≡ old ++ stmt_text p f s
-clock-whole p f q s ss xs old a d is e h k =
+-- the two parts of a loop
+pub both-parts : (p : Program) (f : Found Flat) (s : Stmt) (q : Pos) (k : LoopKind) (c : Option Expr) (body : Stmt) (x : Option Simple) (old a d : List ℕ) → s ≡ stmt.Loop q k c body x →
+    a ≡ old ++ loop_text p q (record_at (intervals p (widest p)) f.records (record { path = []; place = q })) → d ≡ a ++ stmt_text p f body → d ≡ old ++ stmt_text p f s
+both-parts p f s q k c body x old a d is h e =
     let l = loop_text p q (record_at (intervals p (widest p)) f.records (record { path = []; place = q })) in
-    k ∙ ap₂ (λ (x : List ℕ) (ys : List Stmt). x ++ all_text p f ys) h e ∙ append_assoc old l (all_text p f ss) ∙ ap (λ (x : List ℕ). old ++ x) (sym (ap (stmt_text p f) is ∙ text-clock p f q ss))
+    e ∙ ap (λ (y : List ℕ). y ++ stmt_text p f body) h ∙ append_assoc old l (stmt_text p f body) ∙ ap (λ (y : List ℕ). old ++ y) (sym (ap (stmt_text p f) is ∙ text-loop p f q k c body x))

@@ -63,10 +63,11 @@ loop_text p q (Some r) = reached_text q r.passes ++ lines_text p (lines_of p q r
 -- each loop of a statement, in the order of the text
 unfoldable mutual
   pub stmt_text : Program → Found Flat → Stmt → List ℕ
-  stmt_text p f (Stmt.Simple s) = []
   stmt_text p f (Stmt.Block' n all) = stmts_text p f all
-  stmt_text p f (Stmt.Clock' q n all) =
-      loop_text p q (record_at (intervals p (widest p)) f.records (record { path = []; place = q })) ++ stmts_text p f all
+  stmt_text p f (Stmt.Loop' q kind cond n (more_of-Stmt body end_of-Stmt) step) =
+      loop_text p q (record_at (intervals p (widest p)) f.records (record { path = []; place = q })) ++ stmt_text p f body
+  -- typing gives no other form with loops in it yet
+  stmt_text p f _ = []
 
   pub stmts_text : {n : _} → Program → Found Flat → Row_of-Stmt n → List ℕ
   stmts_text p f end_of-Stmt = []

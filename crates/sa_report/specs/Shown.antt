@@ -8,12 +8,13 @@ use Rattle.sa_interval.specs.Rows.{single}
 use Rattle.sa_typed.specs.Constants.{is_constant, fixed_index}
 use Rattle.sa_typed.specs.Executions.{same_pos, main_of}
 use Rattle.sa_typed.specs.Cells.{Cell}
-use Rattle.sa_typed.specs.declared.expr.Expr.{Expr, Number, Read', Input, Prefix', Cast', Chain', end_of-Expr, more_of-Expr, Row_of-Link, end_of-Link, more_of-Link, Row_of-Step, end_of-Step, more_of-Step}
+use Rattle.sa_typed.specs.declared.expr.Expr.{Expr, Number, Read', Input, Prefix', Cast', Chain', And', Or', Choice', end_of-Expr, more_of-Expr, Row_of-Link, end_of-Link, more_of-Link, Row_of-Step, end_of-Step, more_of-Step}
 use Rattle.sa_typed.specs.declared.expr.Expr.TheVariants as e
 use Rattle.sa_typed.specs.declared.expr.Access.{Access}
 use Rattle.sa_typed.specs.declared.expr.Step.{Step, At', Field}
 use Rattle.sa_typed.specs.declared.stmt.Start.{Start}
 use Rattle.sa_typed.specs.declared.stmt.Start.TheVariants as begins
+use Rattle.sa_typed.specs.declared.stmt.LoopKind.TheVariants as kind
 use Rattle.sa_typed.specs.declared.stmt.Simple.{Simple}
 use Rattle.sa_typed.specs.declared.stmt.Simple.TheVariants.{Declare, Assign, Compound, Copy}
 use Rattle.sa_typed.specs.declared.stmt.Stmt.{Stmt, Row_of-Stmt, end_of-Stmt, more_of-Stmt}
@@ -45,6 +46,10 @@ unfoldable mutual
   in_expr c (Prefix' op q num n (more_of-Expr a end_of-Expr)) = in_expr c a
   in_expr c (Cast' q num n (more_of-Expr a end_of-Expr)) = in_expr c a
   in_expr c (Chain' n (more_of-Expr a end_of-Expr) m ls) = in_expr c a || in_links c ls
+  -- typing gives none of these yet
+  in_expr c (And' n a m rest) = false
+  in_expr c (Or' n a m rest) = false
+  in_expr c (Choice' n a m b l d num) = false
 
   pub in_links : {n : _} → Cell → Row_of-Link n → Bool
   in_links c end_of-Link = false
@@ -76,7 +81,9 @@ unfoldable mutual
   pub in_stmt : Cell → Stmt → Bool
   in_stmt c (Stmt.Simple s) = in_simple c s
   in_stmt c (Stmt.Block' n all) = in_stmts c all
-  in_stmt c (Stmt.Clock' q n all) = in_stmts c all
+  in_stmt c (Stmt.Loop' q kind.Clock None n (more_of-Stmt body end_of-Stmt) None) = in_stmt c body
+  -- in a wait there is none, and typing gives no other form yet
+  in_stmt c _ = false
 
   pub in_stmts : {n : _} → Cell → Row_of-Stmt n → Bool
   in_stmts c end_of-Stmt = false
@@ -85,9 +92,10 @@ unfoldable mutual
 -- the cell occurs in a loop whose word stands there
 unfoldable mutual
   pub in_loop : Pos → Cell → Stmt → Bool
-  in_loop q c (Stmt.Simple s) = false
   in_loop q c (Stmt.Block' n all) = in_loops q c all
-  in_loop q c (Stmt.Clock' r n all) = if same_pos r q then in_stmts c all else in_loops q c all
+  in_loop q c (Stmt.Loop' r kind.Clock None n (more_of-Stmt body end_of-Stmt) None) = if same_pos r q then in_stmt c body else in_loop q c body
+  -- typing gives no other form with loops in it yet
+  in_loop q c _ = false
 
   pub in_loops : {n : _} → Pos → Cell → Row_of-Stmt n → Bool
   in_loops q c end_of-Stmt = false

@@ -331,12 +331,13 @@ fn push_stmt(
     ensures { OnOk result (text.new.items ≡ text.old.items ++ stmt_text program.now (found_by analysis.now) stmt.now) }
 {
     match stmt {
-        Stmt::Simple(_) => Ok(()),
         Stmt::Block(all) => push_stmts(alloc, text, program, cells, analysis, all.as_slice()),
-        Stmt::Clock(place, body) => {
+        Stmt::Loop(place, _, _, body, _) => {
             push_loop(alloc, text, program, cells, analysis, *place)?;
-            push_stmts(alloc, text, program, cells, analysis, body.as_slice())
+            push_stmt(alloc, text, program, cells, analysis, body.get())
         }
+        // typing gives no other form with loops in it yet
+        _ => Ok(()),
     }
 }
 

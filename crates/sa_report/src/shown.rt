@@ -132,6 +132,8 @@ fn mark_expr(
             mark_expr(alloc, program, ground, first.get(), marks)?;
             mark_links(alloc, program, ground, links.as_slice(), marks)
         }
+        // typing gives none of these yet
+        Expr::And(_, _) | Expr::Or(_, _) | Expr::Choice(_, _, _, _) => Ok(()),
     }
 }
 
@@ -276,7 +278,10 @@ fn mark_stmt(
     match stmt {
         Stmt::Simple(stmt) => mark_simple(alloc, program, ground, stmt, marks),
         Stmt::Block(all) => mark_stmts(alloc, program, ground, all.as_slice(), marks),
-        Stmt::Clock(_, body) => mark_stmts(alloc, program, ground, body.as_slice(), marks),
+        // the clock loop, since typing gives no other loop yet
+        Stmt::Loop(_, _, _, body, _) => mark_stmt(alloc, program, ground, body.get(), marks),
+        // in a wait there is none, and typing gives no other form yet
+        _ => Ok(()),
     }
 }
 
@@ -324,15 +329,17 @@ fn mark_loop(
     ensures { OnOk result (marks.new ≡ by_loop place (cells program.now) stmt.now marks.old) }
 {
     match stmt {
-        Stmt::Simple(_) => Ok(()),
         Stmt::Block(all) => mark_loops(alloc, program, ground, place, all.as_slice(), marks),
-        Stmt::Clock(at, body) => {
+        // the clock loop, since typing gives no other loop yet
+        Stmt::Loop(at, _, _, body, _) => {
             if is_same(*at, place) {
-                mark_stmts(alloc, program, ground, body.as_slice(), marks)
+                mark_stmt(alloc, program, ground, body.get(), marks)
             } else {
-                mark_loops(alloc, program, ground, place, body.as_slice(), marks)
+                mark_loop(alloc, program, ground, place, body.get(), marks)
             }
         }
+        // typing gives no other form with loops in it yet
+        _ => Ok(()),
     }
 }
 

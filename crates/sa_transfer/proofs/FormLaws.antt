@@ -106,6 +106,18 @@ module _ (p : Program) (env : Flat) where
       let o = span_of p (widest p) env a in
       span_row row.0 row.1 o ∙ ap (λ (xs : List Link). span_after p env xs o) (items_hidden-the_row-Link-2 ls)
 
+  pub span_and : (a : Expr) (es : List Expr) → span_of p (widest p) env (v.And a es) ≡ None
+  unfolding span_of Rattle.sa_typed.specs.declared.expr.Expr.TheBlock.hidden-the_row-Expr-1 denote.Hole.Carrier.hidden
+  span_and a es = refl
+
+  pub span_or : (a : Expr) (es : List Expr) → span_of p (widest p) env (v.Or a es) ≡ None
+  unfolding span_of Rattle.sa_typed.specs.declared.expr.Expr.TheBlock.hidden-the_row-Expr-1 denote.Hole.Carrier.hidden
+  span_or a es = refl
+
+  pub span_choice : (a b c : Expr) (num : Num) → span_of p (widest p) env (v.Choice a b c num) ≡ None
+  unfolding span_of Rattle.sa_typed.specs.declared.expr.Expr.TheBlock.hidden-the_row-Expr-1 denote.Hole.Carrier.hidden
+  span_choice a b c num = refl
+
   -- ---- alarms
   pub alarms_number : (n : ℕ) (num : Num) → alarms_of p (widest p) env (v.Number n num) ≡ []
   unfolding alarms_of
@@ -134,6 +146,18 @@ module _ (p : Program) (env : Flat) where
       let row = links_of (v.Chain a ls) in
       let o = span_of p (widest p) env a in
       ap (λ (xs : List Alarm). alarms_of p (widest p) env a ++ xs) (alarms_row row.0 row.1 o ∙ ap (λ (xs : List Link). alarms_after p env xs o) (items_hidden-the_row-Link-2 ls))
+
+  pub alarms_and : (a : Expr) (es : List Expr) → alarms_of p (widest p) env (v.And a es) ≡ []
+  unfolding alarms_of Rattle.sa_typed.specs.declared.expr.Expr.TheBlock.hidden-the_row-Expr-1 denote.Hole.Carrier.hidden
+  alarms_and a es = refl
+
+  pub alarms_or : (a : Expr) (es : List Expr) → alarms_of p (widest p) env (v.Or a es) ≡ []
+  unfolding alarms_of Rattle.sa_typed.specs.declared.expr.Expr.TheBlock.hidden-the_row-Expr-1 denote.Hole.Carrier.hidden
+  alarms_or a es = refl
+
+  pub alarms_choice : (a b c : Expr) (num : Num) → alarms_of p (widest p) env (v.Choice a b c num) ≡ []
+  unfolding alarms_of Rattle.sa_typed.specs.declared.expr.Expr.TheBlock.hidden-the_row-Expr-1 denote.Hole.Carrier.hidden
+  alarms_choice a b c num = refl
 
   -- ---- steps
   pub reach_at : (q : Pos) (n : ℕ) (a : Expr) → reach_of p (widest p) env (step.At q n a) ≡ index_reach n (span_of p (widest p) env a)
@@ -173,4 +197,4 @@ module _ (p : Program) where
   unfolding IsTypedExpr Rattle.sa_typed.specs.declared.expr.Expr.TheBlock.hidden-the_row-Expr-1 denote.Hole.Carrier.hidden
   index_typed q n a t = t
 
-pub ruleset of_forms = (cells_reached, alarms_reached, span_number, span_read, span_input, span_prefix, span_cast, span_chain, alarms_number, alarms_read, alarms_input, alarms_prefix, alarms_cast, alarms_chain, reach_at, reach_field, alarms_at, alarms_field, access_steps, read_typed, index_typed)
+pub ruleset of_forms = (cells_reached, alarms_reached, span_number, span_read, span_input, span_prefix, span_cast, span_chain, span_and, span_or, span_choice, alarms_number, alarms_read, alarms_input, alarms_prefix, alarms_cast, alarms_chain, alarms_and, alarms_or, alarms_choice, reach_at, reach_field, alarms_at, alarms_field, access_steps, read_typed, index_typed)

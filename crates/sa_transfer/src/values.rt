@@ -290,6 +290,8 @@ fn span_of(
                 alarms,
             )
         }
+        // typing gives none of these yet
+        Expr::And(_, _) | Expr::Or(_, _) | Expr::Choice(_, _, _, _) => Ok(None),
     }
 }
 

@@ -1,18 +1,19 @@
-use Rattle.std.proofs.Common.{rules, arith, ◌≡◌, ◌∙◌, ◌-◌, ◌+◌, ap, sym, refl, true, false, Bool, List, Option, Some, None}
+use Rattle.std.proofs.Common.{rules, arith, ◌≡◌, ◌∙◌, ◌-◌, ◌+◌, ap, sym, refl, true, false, Bool, Some, None}
 use Rattle.std.proofs.lemmas.Result.{on_ok_weaker}
 use Rattle.sa_typed.specs.declared.stmt.Stmt.{Stmt, the_lemmas}
 use Rattle.sa_reference.specs.declared.flat.Flat.{Flat}
 use Rattle.sa_reference.specs.Assignments.{simple_alarms}
-use Rattle.sa_reference.specs.Environments.{le_of, tick_of, top_of, whole_clock}
+use Rattle.sa_reference.specs.Environments.{le_of, top_of, whole_clock}
 use Rattle.sa_reference.specs.Fair.{alive_env}
-use Rattle.sa_reference.specs.Passes.{passes_from, next, alive_then}
+use Rattle.sa_reference.specs.Passes.{passes_from, next}
 use Rattle.sa_reference.specs.Sound.{widest}
 use Rattle.sa_reference.specs.Steps.{Found, both}
 use Rattle.sa_iterate.specs.Analysis.{found_by}
-use Rattle.sa_iterate.specs.Straight.{domain, stmt_after, stmt_found, straight, kept, turn_after, facts_from, clock_found}
-use Rattle.sa_iterate.proofs.FoundLemmas.{kept-all, both-none, alarms-kept, record-added, loop-checked}
+use Rattle.sa_iterate.specs.Straight.{domain, stmt_after, stmt_found, kept, facts_from, clock_found}
+use Rattle.sa_iterate.proofs.FoundLemmas.{both-nothing, kept-all, kept-nothing, both-none, alarms-kept, record-added, loop-checked}
 use Rattle.sa_iterate.proofs.PassLemmas.{passes-first, passes-stable, passes-more, passes-last}
-use Rattle.sa_iterate.proofs.StraightLaws.{simple-after, simple-found, simple-typed, block-after, block-found, block-typed, clock-after, clock-found, clock-typed}
+use Rattle.sa_iterate.proofs.StraightLaws.{simple-after, simple-found, simple-typed, block-after, block-found, block-typed, wait-after, wait-found, clock-after, clock-found}
+use Rattle.sa_iterate.proofs.TypedForms.{dismissed, clock_is, loop_typed}
 use Rattle.sa_iterate.proofs.WalkLemmas.{straight-passed, found-passed, straight-dies, found-died, straight-end, found-end}
 use Rattle.sa_iterate.proofs.passes.+walk.Goals as goal
 
@@ -24,7 +25,7 @@ pub step-walk-requires : goal.step-walk-requires
 step-walk-requires t c = search (rules, the_lemmas, block-typed)
 
 pub step-check_loop-requires : goal.step-check_loop-requires
-step-check_loop-requires t c = search (rules, the_lemmas, clock-typed)
+step-check_loop-requires t c = search (rules, the_lemmas, loop_typed)
 
 pub step-returns-in-Simple-clause-env : goal.step-returns-in-Simple-clause-env
 step-returns-in-Simple-clause-env t c = rw (c.in-Simple.is, simple-after) c.simple.ensures.env
@@ -44,23 +45,44 @@ step-returns-in-Block-clause-env t c = rw (c.in-Block.is, block-after, ← c.as_
 pub step-returns-in-Block-clause-found : goal.step-returns-in-Block-clause-found
 step-returns-in-Block-clause-found t c = rw (c.in-Block.is, block-found, ← c.as_slice.ensures) c.walk.ensures.found
 
-pub step-returns-in_ok-check_loop-in-Clock-clause-env : goal.step-returns-in_ok-check_loop-in-Clock-clause-env
-step-returns-in_ok-check_loop-in-Clock-clause-env t c =
-    ap (λ (s : Stmt). stmt_after c.args.program.now s c.args.env.now) c.in-Clock.is ∙ clock-after c.args.program.now c.in-Clock.place c.in-Clock.body c.args.env.now
+pub step-returns-in-Wait-clause-env : goal.step-returns-in-Wait-clause-env
+step-returns-in-Wait-clause-env t c = rw (c.in-Wait.is, wait-after) c.tick.ensures.env
 
-pub step-returns-in_ok-check_loop-in-Clock-clause-found : goal.step-returns-in_ok-check_loop-in-Clock-clause-found
-step-returns-in_ok-check_loop-in-Clock-clause-found t c =
+pub step-returns-in-Wait-clause-found : goal.step-returns-in-Wait-clause-found
+step-returns-in-Wait-clause-found t c =
+    let f = found_by c.args.found.now in
+    sym (ap (λ (s : Stmt). both f (kept c.args.checking (stmt_found c.args.program.now s c.args.env.now))) c.in-Wait.is
+    ∙ ap (λ (g : Found Flat). both f (kept c.args.checking g)) (wait-found c.args.program.now c.args.env.now) ∙ ap (both f) (kept-nothing c.args.checking) ∙ both-nothing f)
+
+pub step-returns-in_ok-check_loop-in-Loop-clause-env : goal.step-returns-in_ok-check_loop-in-Loop-clause-env
+step-returns-in_ok-check_loop-in-Loop-clause-env t c =
+    let p = c.args.program.now in
+    ap (λ (s : Stmt). stmt_after p s c.args.env.now) (clock_is p c.args.stmt.now c.in-Loop.place _ _ c.in-Loop.body _ c.in-Loop.is c.requires.stmt) ∙ clock-after p c.in-Loop.place c.in-Loop.body c.args.env.now
+
+pub step-returns-in_ok-check_loop-in-Loop-clause-found : goal.step-returns-in_ok-check_loop-in-Loop-clause-found
+step-returns-in_ok-check_loop-in-Loop-clause-found t c =
     let p = c.args.program.now in
     let e = c.args.env.now in
     let f = found_by c.args.found.now in
-    let q = c.in-Clock.place in
-    let one : found_by c.check_loop.new.found ≡ both f (clock_found p q c.as_slice-then-checking.result.now e) = search rules in
-    one ∙ ap (λ (ss : List Stmt). both f (clock_found p q ss e)) c.as_slice-then-checking.ensures
-    ∙ ap (both f) (sym (kept-all c.args.checking (stmt_found p c.args.stmt.now e) c.if-checking.true ∙ ap (λ (s : Stmt). stmt_found p s e) c.in-Clock.is ∙ clock-found p q c.in-Clock.body e))
+    let q = c.in-Loop.place in
+    let is = clock_is p c.args.stmt.now q _ _ c.in-Loop.body _ c.in-Loop.is c.requires.stmt in
+    let one : found_by c.check_loop.new.found ≡ both f (clock_found p q c.in-Loop.body e) = search rules in
+    one ∙ ap (both f) (sym (kept-all c.args.checking (stmt_found p c.args.stmt.now e) c.if-checking.true ∙ ap (λ (s : Stmt). stmt_found p s e) is ∙ clock-found p q c.in-Loop.body e))
+
+pub step-returns-in_default-clause-env : goal.step-returns-in_default-clause-env
+step-returns-in_default-clause-env t c =
+    let d = c.in_default in
+    absurd (dismissed c.args.program.now c.args.stmt.now c.requires.stmt d.not-Simple d.not-Block d.not-Wait d.not-Loop)
+
+pub step-returns-in_default-clause-found : goal.step-returns-in_default-clause-found
+step-returns-in_default-clause-found t c =
+    let d = c.in_default in
+    absurd (dismissed c.args.program.now c.args.stmt.now c.requires.stmt d.not-Simple d.not-Block d.not-Wait d.not-Loop)
 
 pub step-returns-else-checking-clause-env : goal.step-returns-else-checking-clause-env
 step-returns-else-checking-clause-env t c =
-    ap (λ (s : Stmt). stmt_after c.args.program.now s c.args.env.now) c.in-Clock.is ∙ clock-after c.args.program.now c.in-Clock.place c.in-Clock.body c.args.env.now
+    let p = c.args.program.now in
+    ap (λ (s : Stmt). stmt_after p s c.args.env.now) (clock_is p c.args.stmt.now c.in-Loop.place _ _ c.in-Loop.body _ c.in-Loop.is c.requires.stmt) ∙ clock-after p c.in-Loop.place c.in-Loop.body c.args.env.now
 
 pub step-returns-else-checking-clause-found : goal.step-returns-else-checking-clause-found
 step-returns-else-checking-clause-found t c =
@@ -96,28 +118,13 @@ pub walk-returns-clause-found : goal.walk-returns-clause-found
 walk-returns-clause-found t c =
     found-end c.args.program.now c.args.stmts.now c.loop-stmt.stmt-index (Some c.loop-stmt.env) c.args.checking _ _ c.loop-stmt-test.false c.loop-stmt.invariant.found
 
--- ---- one turn
-pub turn-returns-then-branch-clause-env : goal.turn-returns-then-branch-clause-env
-unfolding turn_after
-turn-returns-then-branch-clause-env t c =
-    let p = c.args.program.now in
-    let walked : straight p c.args.body.now (Some c.args.env.now) ≡ alive_env c.in_ok-walk.field-0 c.walk.new.env = search rules in
-    ap (λ (o : Option Flat). alive_then o (tick_of (widest p).max_clock)) (walked ∙ ap (λ (b : Bool). alive_env b c.walk.new.env) c.if-branch.true) ∙ c.tick.ensures.env
-
-pub turn-returns-clause-env : goal.turn-returns-clause-env
-unfolding turn_after
-turn-returns-clause-env t c =
-    let p = c.args.program.now in
-    let walked : straight p c.args.body.now (Some c.args.env.now) ≡ alive_env c.in_ok-walk.field-0 c.walk.new.env = search rules in
-    ap (λ (o : Option Flat). alive_then o (tick_of (widest p).max_clock)) (walked ∙ ap (λ (b : Bool). alive_env b c.walk.new.env) c.if-branch.false)
-
 -- ---- the passes
 pub clock_facts-loop-pass-init : goal.clock_facts-loop-pass-init
 clock_facts-loop-pass-init t c =
     let p = c.args.program.now in
     let start : c.in_ok-state.state ≡ c.args.entry.now = search rules in
     record {
-      value = ap (λ (e : Flat). passes_from (domain p) (turn_after p c.args.body.now) (top_of p (whole_clock (widest p).max_clock)) c.args.entry.now 31 1 e) start ∙ passes-first p c.args.body.now c.args.entry.now;
+      value = ap (λ (e : Flat). passes_from (domain p) (stmt_after p c.args.body.now) (top_of p (whole_clock (widest p).max_clock)) c.args.entry.now 31 1 e) start ∙ passes-first p c.args.body.now c.args.entry.now;
       fair = rw start c.requires.entry;
     }
 
@@ -126,7 +133,7 @@ clock_facts-returns-then-le-clause-value t c =
     let p = c.args.program.now in
     let n = c.loop-pass.pass in
     let below : le_of c.in_ok-joined.joined c.loop-pass.state ≡ true = search rules in
-    passes-stable p (turn_after p c.args.body.now) (top_of p (whole_clock (widest p).max_clock)) c.args.entry.now (facts_from p c.args.body.now c.args.entry.now) (31 - n) (32 - n) n c.loop-pass.state c.in_ok-joined.joined
+    passes-stable p (stmt_after p c.args.body.now) (top_of p (whole_clock (widest p).max_clock)) c.args.entry.now (facts_from p c.args.body.now c.args.entry.now) (31 - n) (32 - n) n c.loop-pass.state c.in_ok-joined.joined
     (omega arith) c.in_ok-joined.ensures.value below c.loop-pass.invariant.value
 
 pub clock_facts-loop-pass-preserved : goal.clock_facts-loop-pass-preserved
@@ -137,7 +144,7 @@ clock_facts-loop-pass-preserved t c =
     let more : c.in_ok-state-2.state ≡ next (domain p) (top_of p (whole_clock (widest p).max_clock)) n c.loop-pass.state c.in_ok-joined.joined = search rules in
     let left : 32 - (n + 1) ≡ 31 - n = omega arith in
     record {
-      value = rw (left, more) (passes-more p (turn_after p c.args.body.now) (top_of p (whole_clock (widest p).max_clock)) c.args.entry.now (facts_from p c.args.body.now c.args.entry.now) (31 - n) (32 - n) n c.loop-pass.state c.in_ok-joined.joined
+      value = rw (left, more) (passes-more p (stmt_after p c.args.body.now) (top_of p (whole_clock (widest p).max_clock)) c.args.entry.now (facts_from p c.args.body.now c.args.entry.now) (31 - n) (32 - n) n c.loop-pass.state c.in_ok-joined.joined
           (omega arith) c.in_ok-joined.ensures.value below c.loop-pass.invariant.value);
       fair = c.in_ok-state-2.ensures.fair;
     }
@@ -146,7 +153,7 @@ pub clock_facts-returns-clause-value : goal.clock_facts-returns-clause-value
 clock_facts-returns-clause-value t c =
     let p = c.args.program.now in
     let at : c.loop-pass.pass ≡ 32 = omega arith in
-    passes-last p (turn_after p c.args.body.now) (top_of p (whole_clock (widest p).max_clock)) c.args.entry.now (facts_from p c.args.body.now c.args.entry.now) (32 - c.loop-pass.pass) c.loop-pass.pass c.loop-pass.state
+    passes-last p (stmt_after p c.args.body.now) (top_of p (whole_clock (widest p).max_clock)) c.args.entry.now (facts_from p c.args.body.now c.args.entry.now) (32 - c.loop-pass.pass) c.loop-pass.pass c.loop-pass.state
     (omega arith) c.loop-pass.invariant.value ∙ rw at refl
 
 -- ---- the loop in checking mode
@@ -156,4 +163,4 @@ check_loop-returns t c =
     let old = c.args.found.now in
     let same : c.in_ok-env.env ≡ f.state = search rules in
     loop-checked c.args.program.now c.args.place c.args.body.now c.args.entry.now c.in_ok-env.env f (found_by old) _ _ c.in_ok-facts.ensures.value c.in_ok-facts.ensures.place same
-    (record-added old.alarms.items old.loops.items _ f c.in_ok-push.ensures.items) c.in_ok-walk.ensures.found
+    (record-added old.alarms.items old.loops.items _ f c.in_ok-push.ensures.items) c.in_ok-step.ensures.found

@@ -4,7 +4,7 @@ use Rattle.sa_reference.specs.Passes.{passes_from}
 use Rattle.sa_reference.specs.Sound.{widest}
 use Rattle.sa_reference.specs.Steps.{both}
 use Rattle.sa_iterate.specs.Analysis.{found_by}
-use Rattle.sa_iterate.specs.Straight.{domain, IsFairIn, straight, straight_found, kept, turn_after, facts_from}
+use Rattle.sa_iterate.specs.Straight.{domain, IsFairIn, stmt_after, straight, straight_found, kept, facts_from}
 use Rattle.sa_iterate.proofs.passes.+walk.Given as goal
 
 abbrev pub invariant-walk-loop-stmt : goal.invariant-walk-loop-stmt
@@ -17,7 +17,7 @@ invariant-walk-loop-stmt l = record {
 
 abbrev pub invariant-clock_facts-loop-pass : goal.invariant-clock_facts-loop-pass
 invariant-clock_facts-loop-pass l = record {
-  value : passes_from (domain l.program) (turn_after l.program l.body) (top_of l.program (whole_clock (widest l.program).max_clock)) l.entry (32 - l.pass) l.pass l.state
+  value : passes_from (domain l.program) (stmt_after l.program l.body) (top_of l.program (whole_clock (widest l.program).max_clock)) l.entry (32 - l.pass) l.pass l.state
       ≡ facts_from l.program l.body l.entry;
   fair : IsFairIn l.program l.state;
 }
