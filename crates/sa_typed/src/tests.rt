@@ -484,3 +484,42 @@ fn constant_forms(rt: HostRuntime) -> Result<(), Fail> {
     }
     Ok(())
 }
+
+/// A literal, or an input, which isn't constant.
+fn term(constant: bool) -> Expr {
+    if constant {
+        Expr::Number(7, Num::I32)
+    } else {
+        Expr::Input(0, Num::I32)
+    }
+}
+
+/// Two terms in their order.
+fn terms(alloc: Global, first: bool, second: bool) -> Result<Items<Expr>, OutOfMemory> {
+    let mut terms = Vec::new(alloc);
+    terms.push(term(first))?;
+    terms.push(term(second))?;
+    Ok(Items::from_vec(terms))
+}
+
+#[test]
+fn constant_parts(rt: HostRuntime) -> Result<(), Fail> {
+    let alloc = rt.alloc();
+    for (a, b, c) in [
+        (true, true, true),
+        (false, true, true),
+        (true, false, true),
+        (true, true, false),
+    ] {
+        let want = a && b && c;
+        let and = Expr::And(Boxed::new(alloc, term(a))?, terms(alloc, b, c)?);
+        assert_eq!(rt; is_constant(&and), want, "{a} && {b} && {c}");
+        let or = Expr::Or(Boxed::new(alloc, term(a))?, terms(alloc, b, c)?);
+        assert_eq!(rt; is_constant(&or), want, "{a} || {b} || {c}");
+        let first = Boxed::new(alloc, term(b))?;
+        let second = Boxed::new(alloc, term(c))?;
+        let choice = Expr::Choice(Boxed::new(alloc, term(a))?, first, second, Num::I32);
+        assert_eq!(rt; is_constant(&choice), want, "{a} ? {b} : {c}");
+    }
+    Ok(())
+}
