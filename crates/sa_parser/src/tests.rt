@@ -190,8 +190,20 @@ fn which_comes_first_of_an_error_and_the_limit(rt: HostRuntime) -> Result<(), Fa
     let cases = [
         ("int x = ", 200, "(", "", ParseFault::Syntax(at(1, 209))),
         ("int x = ", 201, "(", "+", ParseFault::TooDeep(at(1, 209))),
-        ("void f(void) { ", 199, "if (1) ", "if ; }", ParseFault::Syntax(at(1, 1412))),
-        ("void f(void) { ", 200, "do ", "}", ParseFault::Syntax(at(1, 616))),
+        (
+            "void f(void) { ",
+            199,
+            "if (1) ",
+            "if ; }",
+            ParseFault::Syntax(at(1, 1412)),
+        ),
+        (
+            "void f(void) { ",
+            200,
+            "do ",
+            "}",
+            ParseFault::Syntax(at(1, 616)),
+        ),
     ];
     are_refused(&rt, rt.alloc(), &cases)
 }
@@ -202,16 +214,70 @@ fn at_which_token_the_limit_is_told(rt: HostRuntime) -> Result<(), Fail> {
         ("int x = ", 201, "(", "1", ParseFault::TooDeep(at(1, 209))),
         ("int x = ", 201, "- ", "1", ParseFault::TooDeep(at(1, 409))),
         // Its bracket counts beside the casts before it.
-        ("int x = ", 201, "(int)", "1", ParseFault::TooDeep(at(1, 1009))),
-        ("int x = ", 201, "1 ? ", "1", ParseFault::TooDeep(at(1, 811))),
+        (
+            "int x = ",
+            201,
+            "(int)",
+            "1",
+            ParseFault::TooDeep(at(1, 1009)),
+        ),
+        (
+            "int x = ",
+            201,
+            "1 ? ",
+            "1",
+            ParseFault::TooDeep(at(1, 811)),
+        ),
         // Each block is a bracket, and all but the first are a statement in a statement.
-        ("void f(void) { ", 101, "{ ", "", ParseFault::TooDeep(at(1, 216))),
-        ("void f(void) { ", 200, "if (1) ", "", ParseFault::TooDeep(at(1, 1412))),
-        ("void f(void) { ", 200, "do ", ";", ParseFault::TooDeep(at(1, 616))),
-        ("void f(void) { ", 199, "if (1) ", "__ASTREE_assert((", ParseFault::TooDeep(at(1, 1424))),
-        ("void f(void) { ", 198, "if (1) ", "__ASTREE_assert((", ParseFault::TooDeep(at(1, 1418))),
-        ("void f(void) { ", 199, "if (1) ", "__ASTREE_assert;", ParseFault::Syntax(at(1, 1424))),
-        ("void f(void) { ", 198, "if (1) ", "__ASTREE_assert(1", ParseFault::Syntax(at(1, 1418))),
+        (
+            "void f(void) { ",
+            101,
+            "{ ",
+            "",
+            ParseFault::TooDeep(at(1, 216)),
+        ),
+        (
+            "void f(void) { ",
+            200,
+            "if (1) ",
+            "",
+            ParseFault::TooDeep(at(1, 1412)),
+        ),
+        (
+            "void f(void) { ",
+            200,
+            "do ",
+            ";",
+            ParseFault::TooDeep(at(1, 616)),
+        ),
+        (
+            "void f(void) { ",
+            199,
+            "if (1) ",
+            "__ASTREE_assert((",
+            ParseFault::TooDeep(at(1, 1424)),
+        ),
+        (
+            "void f(void) { ",
+            198,
+            "if (1) ",
+            "__ASTREE_assert((",
+            ParseFault::TooDeep(at(1, 1418)),
+        ),
+        (
+            "void f(void) { ",
+            199,
+            "if (1) ",
+            "__ASTREE_assert;",
+            ParseFault::Syntax(at(1, 1424)),
+        ),
+        (
+            "void f(void) { ",
+            198,
+            "if (1) ",
+            "__ASTREE_assert(1",
+            ParseFault::Syntax(at(1, 1418)),
+        ),
     ];
     are_refused(&rt, rt.alloc(), &cases)
 }
