@@ -21,11 +21,7 @@ use std::alloc::Global;
 
 /// A name with what it stands for, or a refusal where it is visible already.
 #[tactic(auto, unfolding(crate::specs::Declarations::named))]
-pub fn declare<'a>(
-    typer: &mut Typer<'a>,
-    name: &'a Name,
-    named: Named,
-) -> Result<(), OutOfMemory>
+pub fn declare<'a>(typer: &mut Typer<'a>, name: &'a Name, named: Named) -> Result<(), OutOfMemory>
     ensures { Yields (spec.named name.now named typer.old) result typer.new }
 {
     if typer.names.contains(name.text.bytes()) {
@@ -84,7 +80,12 @@ fn add_var(typer: &mut Typer, var: Var) -> Result<(), OutOfMemory>
 
 /// Another input.
 #[tactic(auto, unfolding(crate::specs::Declarations::input))]
-fn input<'a>(alloc: Global, typer: &mut Typer<'a>, name: &'a Name, num: Num) -> Result<(), OutOfMemory>
+fn input<'a>(
+    alloc: Global,
+    typer: &mut Typer<'a>,
+    name: &'a Name,
+    num: Num,
+) -> Result<(), OutOfMemory>
     ensures { Yields (spec.input name.now num typer.old) result typer.new }
 {
     let number = number(typer.inputs.len())?;

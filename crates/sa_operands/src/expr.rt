@@ -70,7 +70,12 @@ fn beside_head(typer: &mut Typer, more: &[Link], first: &Expr) -> Result<(), Out
 }
 
 #[cycle(typing)]
-fn link<'a>(alloc: Global, typer: &mut Typer<'a>, link: &'a Link, left: Left) -> Result<Left, OutOfMemory>
+fn link<'a>(
+    alloc: Global,
+    typer: &mut Typer<'a>,
+    link: &'a Link,
+    left: Left,
+) -> Result<Left, OutOfMemory>
     ensures { Yields (list.link link.now left typer.old) result typer.new }
 {
     let operand = expr(alloc, typer, &link.operand)?;
@@ -80,7 +85,12 @@ fn link<'a>(alloc: Global, typer: &mut Typer<'a>, link: &'a Link, left: Left) ->
 
 #[cycle(typing)]
 #[tactic(auto, using(sa_scopes::proofs::Loops::loops))]
-fn links<'a>(alloc: Global, typer: &mut Typer<'a>, all: &'a [Link], first: Left) -> Result<Left, OutOfMemory>
+fn links<'a>(
+    alloc: Global,
+    typer: &mut Typer<'a>,
+    all: &'a [Link],
+    first: Left,
+) -> Result<Left, OutOfMemory>
     ensures { Yields (list.links all.now first typer.old) result typer.new }
 {
     let mut left = first;
@@ -102,7 +112,12 @@ pub fn spot<'a>(alloc: Global, typer: &mut Typer<'a>, place: &'a Place) -> Resul
 
 #[cycle(typing)]
 #[tactic(auto, using(sa_scopes::proofs::Loops::loops))]
-fn steps<'a>(alloc: Global, typer: &mut Typer<'a>, all: &'a [Step], first: Spot) -> Result<Spot, OutOfMemory>
+fn steps<'a>(
+    alloc: Global,
+    typer: &mut Typer<'a>,
+    all: &'a [Step],
+    first: Spot,
+) -> Result<Spot, OutOfMemory>
     ensures { Yields (list.steps all.now first typer.old) result typer.new }
 {
     let mut spot = first;
@@ -114,7 +129,12 @@ fn steps<'a>(alloc: Global, typer: &mut Typer<'a>, all: &'a [Step], first: Spot)
 
 #[cycle(typing)]
 #[tactic(auto, using(crate::proofs::ExprRows::step_rows))]
-fn step<'a>(alloc: Global, typer: &mut Typer<'a>, step: &'a Step, spot: Spot) -> Result<Spot, OutOfMemory>
+fn step<'a>(
+    alloc: Global,
+    typer: &mut Typer<'a>,
+    step: &'a Step,
+    spot: Spot,
+) -> Result<Spot, OutOfMemory>
     ensures { Yields (spec.step step.now spot typer.old) result typer.new }
 {
     match step {
@@ -131,7 +151,11 @@ fn step<'a>(alloc: Global, typer: &mut Typer<'a>, step: &'a Step, spot: Spot) ->
 
 #[cycle(typing)]
 #[tactic(auto, using(crate::proofs::ExprRows::base_rows))]
-fn base_type<'a>(alloc: Global, typer: &mut Typer<'a>, ty: &'a Specifiers) -> Result<Ty, OutOfMemory>
+fn base_type<'a>(
+    alloc: Global,
+    typer: &mut Typer<'a>,
+    ty: &'a Specifiers,
+) -> Result<Ty, OutOfMemory>
     ensures { Yields (spec.base_type (out-Specifiers ty.now).pos (out-Specifiers ty.now).base typer.old) result typer.new }
 {
     match &ty.base {
@@ -146,7 +170,11 @@ fn base_type<'a>(alloc: Global, typer: &mut Typer<'a>, ty: &'a Specifiers) -> Re
 /// A type with its qualifiers, which aren't refused here.
 #[cycle(typing)]
 #[tactic(auto, unfolding(crate::specs::Lists::type_of))]
-pub fn type_of<'a>(alloc: Global, typer: &mut Typer<'a>, ty: &'a Specifiers) -> Result<Ty, OutOfMemory>
+pub fn type_of<'a>(
+    alloc: Global,
+    typer: &mut Typer<'a>,
+    ty: &'a Specifiers,
+) -> Result<Ty, OutOfMemory>
     ensures { Yields (list.type_of ty.now typer.old) result typer.new }
 {
     let base = base_type(alloc, typer, ty)?;
@@ -156,7 +184,11 @@ pub fn type_of<'a>(alloc: Global, typer: &mut Typer<'a>, ty: &'a Specifiers) -> 
 /// The type of an object, where `void` is refused.
 #[cycle(typing)]
 #[tactic(auto, unfolding(crate::specs::Lists::object_type, crate::specs::Lists::type_of))]
-pub fn object_type<'a>(alloc: Global, typer: &mut Typer<'a>, ty: &'a Specifiers) -> Result<Ty, OutOfMemory>
+pub fn object_type<'a>(
+    alloc: Global,
+    typer: &mut Typer<'a>,
+    ty: &'a Specifiers,
+) -> Result<Ty, OutOfMemory>
     ensures { Yields (list.object_type ty.now typer.old) result typer.new }
 {
     let whole = type_of(alloc, typer, ty)?;
@@ -166,7 +198,11 @@ pub fn object_type<'a>(alloc: Global, typer: &mut Typer<'a>, ty: &'a Specifiers)
 /// A structure that is defined, with its tag where it has one.
 #[cycle(typing)]
 #[tactic(auto, using(crate::proofs::ExprRows::struct_rows))]
-pub fn structure<'a>(alloc: Global, typer: &mut Typer<'a>, body: &'a Struct) -> Result<Ty, OutOfMemory>
+pub fn structure<'a>(
+    alloc: Global,
+    typer: &mut Typer<'a>,
+    body: &'a Struct,
+) -> Result<Ty, OutOfMemory>
     ensures { Yields (spec.structure body.now typer.old) result typer.new }
 {
     let at = open_tag(typer, &body.tag)?;
@@ -241,7 +277,11 @@ fn declr<'a>(
 /// The dimensions of a declared name, the outermost first.
 #[cycle(typing)]
 #[tactic(auto, using(sa_scopes::proofs::Loops::loops))]
-pub fn bounds<'a>(alloc: Global, typer: &mut Typer<'a>, all: &'a [Bound]) -> Result<Items<u32>, OutOfMemory>
+pub fn bounds<'a>(
+    alloc: Global,
+    typer: &mut Typer<'a>,
+    all: &'a [Bound],
+) -> Result<Items<u32>, OutOfMemory>
     ensures { Yields (list.bounds all.now [] typer.old) result typer.new }
 {
     let mut found = Items::new(alloc);

@@ -5,6 +5,7 @@ use sa_base::Pos;
 use sa_syntax::{Item, Unit};
 use sa_tokens::{TokenFault, end_of, tokens};
 use std::alloc::Global;
+use std::process::Abort;
 use std::test::Fail;
 
 const MOST_BYTES: usize = 4_194_304;
@@ -109,28 +110,38 @@ fn what_has_none(rt: HostRuntime) -> Result<(), Fail> {
     Ok(())
 }
 
+/// A source in which a piece stands so many times, and as often what closes it.
+fn nested(
+    alloc: Global,
+    before: &str,
+    count: usize,
+    [open, close]: [&str; 2],
+    inside: &str,
+) -> Result<String, Fail> {
+    let mut source = String::new(alloc);
+    source.push_str(before)?;
+    for _ in 0..count {
+        source.push_str(open)?;
+    }
+    source.push_str(inside)?;
+    for _ in 0..count {
+        source.push_str(close)?;
+    }
+    Ok(source)
+}
+
 #[test]
 fn how_much_may_be_open(rt: HostRuntime) -> Result<(), Fail> {
     let alloc = rt.alloc();
-    for (count, deep) in [(200usize, false), (201, true)] {
-        let brackets = format!(in alloc;
-            "int x = {}1{};",
-            "(".repeat(alloc, count)?,
-            ")".repeat(alloc, count)?
-        )?;
-        let prefixes = format!(in alloc; "int x = {}1;", "- ".repeat(alloc, count)?)?;
-        let casts = format!(in alloc; "int x = {}1;", "(int)".repeat(alloc, count)?)?;
-        let choices = format!(in alloc;
-            "int x = {}1{};",
-            "1 ? ".repeat(alloc, count)?,
-            ": 1".repeat(alloc, count)?
-        )?;
-        for source in [&brackets, &prefixes, &casts, &choices] {
-            match read(alloc, source) {
-                Ok(_) => assert!(rt; !deep, "{count}"),
+    for [open, close] in [["(", ")"], ["- ", ""], ["(int)", ""], ["1 ? ", ": 1"]] {
+        for (count, deep) in [(200usize, false), (201, true)] {
+            let mut source = nested(alloc, "int x = ", count, [open, close], "1")?;
+            source.push_str(";")?;
+            match read(alloc, &source) {
+                Ok(_) => assert!(rt; !deep, "{open} {count}"),
                 Err(fault) => assert!(rt;
                     deep && matches!(fault, ParseFault::TooDeep(_)),
-                    "{count}"
+                    "{open} {count}"
                 ),
             }
         }
@@ -158,65 +169,117 @@ fn where_a_text_that_is_cut_off_is_refused(rt: HostRuntime) -> Result<(), Fail> 
     Ok(())
 }
 
-#[test]
-fn which_comes_first_of_an_error_and_the_limit(rt: HostRuntime) -> Result<(), Fail> {
-    let alloc = rt.alloc();
-    let open = format!(in alloc; "int x = {}", "(".repeat(alloc, 200)?)?;
-    let deeper = format!(in alloc; "int x = {}+", "(".repeat(alloc, 201)?)?;
-    let word = format!(in alloc; "void f(void) {{ {}if ; }}", "if (1) ".repeat(alloc, 199)?)?;
-    let body = format!(in alloc; "void f(void) {{ {}}}", "do ".repeat(alloc, 200)?)?;
-    let cases = [
-        (&open, ParseFault::Syntax(at(1, 209))),
-        (&deeper, ParseFault::TooDeep(at(1, 209))),
-        (&word, ParseFault::Syntax(at(1, 1412))),
-        (&body, ParseFault::Syntax(at(1, 616))),
-    ];
-    for (source, expected) in cases {
-        match read(alloc, source) {
+/// Sources in which nothing closes a piece that stands so many times, and how each is refused.
+fn are_refused(
+    rt: &impl Abort,
+    alloc: Global,
+    cases: &[(&str, usize, &str, &str, ParseFault)],
+) -> Result<(), Fail> {
+    for (before, count, piece, after, expected) in cases {
+        let source = nested(alloc, before, *count, [piece, ""], after)?;
+        match read(alloc, &source) {
             Ok(_) => assert!(rt; false, "{source}"),
-            Err(fault) => assert_eq!(rt; fault, expected, "{source}"),
+            Err(fault) => assert_eq!(rt; fault, *expected, "{source}"),
         }
     }
     Ok(())
 }
 
 #[test]
-fn at_which_token_the_limit_is_told(rt: HostRuntime) -> Result<(), Fail> {
-    let alloc = rt.alloc();
-    let brackets = format!(in alloc; "int x = {}1", "(".repeat(alloc, 201)?)?;
-    let prefixes = format!(in alloc; "int x = {}1", "- ".repeat(alloc, 201)?)?;
-    let casts = format!(in alloc; "int x = {}1", "(int)".repeat(alloc, 201)?)?;
-    let choices = format!(in alloc; "int x = {}1", "1 ? ".repeat(alloc, 201)?)?;
-    let blocks = format!(in alloc; "void f(void) {{ {}", "{ ".repeat(alloc, 101)?)?;
-    let words = format!(in alloc; "void f(void) {{ {}", "if (1) ".repeat(alloc, 200)?)?;
-    let bodies = format!(in alloc; "void f(void) {{ {};", "do ".repeat(alloc, 200)?)?;
-    let ifs = "if (1) ".repeat(alloc, 198)?;
-    let first = format!(in alloc; "void f(void) {{ {}if (1) __ASTREE_assert((", ifs)?;
-    let second = format!(in alloc; "void f(void) {{ {}__ASTREE_assert((", ifs)?;
-    let no_first = format!(in alloc; "void f(void) {{ {}if (1) __ASTREE_assert;", ifs)?;
-    let no_second = format!(in alloc; "void f(void) {{ {}__ASTREE_assert(1", ifs)?;
+fn which_comes_first_of_an_error_and_the_limit(rt: HostRuntime) -> Result<(), Fail> {
     let cases = [
-        (&brackets, ParseFault::TooDeep(at(1, 209))),
-        (&prefixes, ParseFault::TooDeep(at(1, 409))),
-        // Its bracket counts beside the casts before it.
-        (&casts, ParseFault::TooDeep(at(1, 1009))),
-        (&choices, ParseFault::TooDeep(at(1, 811))),
-        // Each block is a bracket, and all but the first are a statement in a statement.
-        (&blocks, ParseFault::TooDeep(at(1, 216))),
-        (&words, ParseFault::TooDeep(at(1, 1412))),
-        (&bodies, ParseFault::TooDeep(at(1, 616))),
-        (&first, ParseFault::TooDeep(at(1, 1424))),
-        (&second, ParseFault::TooDeep(at(1, 1418))),
-        (&no_first, ParseFault::Syntax(at(1, 1424))),
-        (&no_second, ParseFault::Syntax(at(1, 1418))),
+        ("int x = ", 200, "(", "", ParseFault::Syntax(at(1, 209))),
+        ("int x = ", 201, "(", "+", ParseFault::TooDeep(at(1, 209))),
+        (
+            "void f(void) { ",
+            199,
+            "if (1) ",
+            "if ; }",
+            ParseFault::Syntax(at(1, 1412)),
+        ),
+        (
+            "void f(void) { ",
+            200,
+            "do ",
+            "}",
+            ParseFault::Syntax(at(1, 616)),
+        ),
     ];
-    for (source, expected) in cases {
-        match read(alloc, source) {
-            Ok(_) => assert!(rt; false, "{source}"),
-            Err(fault) => assert_eq!(rt; fault, expected, "{source}"),
-        }
-    }
-    Ok(())
+    are_refused(&rt, rt.alloc(), &cases)
+}
+
+#[test]
+fn at_which_token_the_limit_is_told(rt: HostRuntime) -> Result<(), Fail> {
+    let cases = [
+        ("int x = ", 201, "(", "1", ParseFault::TooDeep(at(1, 209))),
+        ("int x = ", 201, "- ", "1", ParseFault::TooDeep(at(1, 409))),
+        // Its bracket counts beside the casts before it.
+        (
+            "int x = ",
+            201,
+            "(int)",
+            "1",
+            ParseFault::TooDeep(at(1, 1009)),
+        ),
+        (
+            "int x = ",
+            201,
+            "1 ? ",
+            "1",
+            ParseFault::TooDeep(at(1, 811)),
+        ),
+        // Each block is a bracket, and all but the first are a statement in a statement.
+        (
+            "void f(void) { ",
+            101,
+            "{ ",
+            "",
+            ParseFault::TooDeep(at(1, 216)),
+        ),
+        (
+            "void f(void) { ",
+            200,
+            "if (1) ",
+            "",
+            ParseFault::TooDeep(at(1, 1412)),
+        ),
+        (
+            "void f(void) { ",
+            200,
+            "do ",
+            ";",
+            ParseFault::TooDeep(at(1, 616)),
+        ),
+        (
+            "void f(void) { ",
+            199,
+            "if (1) ",
+            "__ASTREE_assert((",
+            ParseFault::TooDeep(at(1, 1424)),
+        ),
+        (
+            "void f(void) { ",
+            198,
+            "if (1) ",
+            "__ASTREE_assert((",
+            ParseFault::TooDeep(at(1, 1418)),
+        ),
+        (
+            "void f(void) { ",
+            199,
+            "if (1) ",
+            "__ASTREE_assert;",
+            ParseFault::Syntax(at(1, 1424)),
+        ),
+        (
+            "void f(void) { ",
+            198,
+            "if (1) ",
+            "__ASTREE_assert(1",
+            ParseFault::Syntax(at(1, 1418)),
+        ),
+    ];
+    are_refused(&rt, rt.alloc(), &cases)
 }
 
 #[test]

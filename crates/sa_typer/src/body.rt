@@ -159,7 +159,11 @@ fn main_item<'a>(
 }
 
 #[tactic(auto, using(sa_scopes::proofs::Loops::loops))]
-fn main_items<'a>(alloc: Global, typer: &mut Typer<'a>, all: &'a [BlockItem]) -> Result<Body, OutOfMemory>
+fn main_items<'a>(
+    alloc: Global,
+    typer: &mut Typer<'a>,
+    all: &'a [BlockItem],
+) -> Result<Body, OutOfMemory>
     ensures { Yields (spec.main_items all.now spec.no_body typer.old) result typer.new }
 {
     let mut found = Body {
@@ -174,7 +178,11 @@ fn main_items<'a>(alloc: Global, typer: &mut Typer<'a>, all: &'a [BlockItem]) ->
 
 /// The block of `main`.
 #[tactic(auto, unfolding(crate::specs::Bodies::main_block, crate::specs::Statements::scoped))]
-pub fn main_block<'a>(alloc: Global, typer: &mut Typer<'a>, all: &'a [BlockItem]) -> Result<Body, OutOfMemory>
+pub fn main_block<'a>(
+    alloc: Global,
+    typer: &mut Typer<'a>,
+    all: &'a [BlockItem],
+) -> Result<Body, OutOfMemory>
     ensures { Yields (spec.main_block all.now typer.old) result typer.new }
 {
     let (names, tags) = (typer.names.count(), typer.tags.count());

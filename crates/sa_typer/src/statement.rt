@@ -178,7 +178,11 @@ fn compounded(
 }
 
 /// A left side, which is neither constant nor an input.
-fn left_side<'a>(alloc: Global, typer: &mut Typer<'a>, place: &'a Place) -> Result<Spot, OutOfMemory>
+fn left_side<'a>(
+    alloc: Global,
+    typer: &mut Typer<'a>,
+    place: &'a Place,
+) -> Result<Spot, OutOfMemory>
     ensures { Yields (spec.left_side place.now typer.old) result typer.new }
 {
     let spot = spot(alloc, typer, place)?;
@@ -289,7 +293,11 @@ pub fn item<'a>(
 
 #[cycle(statements)]
 #[tactic(auto, using(sa_scopes::proofs::Loops::loops))]
-fn items<'a>(alloc: Global, typer: &mut Typer<'a>, all: &'a [BlockItem]) -> Result<Items<Stmt>, OutOfMemory>
+fn items<'a>(
+    alloc: Global,
+    typer: &mut Typer<'a>,
+    all: &'a [BlockItem],
+) -> Result<Items<Stmt>, OutOfMemory>
     ensures { Yields (body.items all.now [] typer.old) result typer.new }
 {
     let mut found = Items::new(alloc);

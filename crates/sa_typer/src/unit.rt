@@ -30,7 +30,11 @@ use std::alloc::Global;
 // ---- items
 
 /// A type before a name at file scope, where `volatile` is out of place.
-fn plain_type<'a>(alloc: Global, typer: &mut Typer<'a>, ty: &'a Specifiers) -> Result<Ty, OutOfMemory>
+fn plain_type<'a>(
+    alloc: Global,
+    typer: &mut Typer<'a>,
+    ty: &'a Specifiers,
+) -> Result<Ty, OutOfMemory>
     ensures { Yields (spec.plain_type ty.now typer.old) result typer.new }
 {
     check_qualifiers(typer, false, true, ty.qualifiers.as_slice())?;
@@ -137,7 +141,11 @@ fn item<'a>(
 }
 
 #[tactic(auto, using(sa_scopes::proofs::Loops::loops))]
-fn items<'a>(alloc: Global, typer: &mut Typer<'a>, all: &'a [Item]) -> Result<Option<Entry>, OutOfMemory>
+fn items<'a>(
+    alloc: Global,
+    typer: &mut Typer<'a>,
+    all: &'a [Item],
+) -> Result<Option<Entry>, OutOfMemory>
     ensures { Yields (spec.items all.now None typer.old) result typer.new }
 {
     let mut found = None;
