@@ -6,3 +6,4 @@ pub mod LinkLaws
 pub mod OperandLaws
 mod Sample
 pub mod ProgressLaws
+pub mod SpanLaws

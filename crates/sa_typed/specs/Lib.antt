@@ -8,3 +8,5 @@ pub mod Constants
 pub mod WellTyped
 pub mod Links
 pub mod Progress
+pub mod Ranges
+pub mod Gathering

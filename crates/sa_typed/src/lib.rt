@@ -11,6 +11,7 @@ mod constants;
 mod expr;
 mod laws;
 mod program;
+mod ranges;
 mod shape;
 mod stmt;
 #[cfg(test)]
@@ -23,5 +24,6 @@ pub use constants::{fixed_index, is_constant};
 pub use expr::{Access, Expr, Link, Operator, Prefix, Step};
 pub use laws::{goes_on, never_breaks};
 pub use program::{Func, Home, Input, Param, Place, Program, Var};
+pub use ranges::Ranges;
 pub use shape::{FieldDef, Part, Plain, Shape, StructDef};
 pub use stmt::{Arg, Destination, Group, Label, LoopKind, Simple, Start, Stmt};
