@@ -9,8 +9,8 @@ use std::alloc::Global;
 use std::collections::BTreeMap;
 use std::marker::Model;
 
-/// Names, the oldest first, and what each stands for. A name is looked up in a map, whatever their number; the map may still
-/// have places of names that are not visible any more.
+/// Names, the oldest first, and what each stands for. The names are borrowed from the tree. A name is looked up in a map,
+/// whatever their number; the map may still have places of names that are not visible any more.
 #[derive(Drop)]
 pub struct Scope<'a, M> {
     words: Vec<&'a [u8]>,
