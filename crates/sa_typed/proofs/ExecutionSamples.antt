@@ -152,12 +152,15 @@ taker_takes = refl
 counter_typed : IsTypedStmt counter (main_of counter)
 unfolding IsTypedStmt hidden-the_row-Stmt-0 hidden-the_row-Stmt-1 denote.Hole.Carrier.hidden AreTypedSteps hidden-the_row-Step-0 steps_layout layout_of layout_with rows hidden-the_row-Expr-1 hidden-the_row-Link-2 converts type_of
 counter_typed = ((((tt, refl), ((tt, refl), (refl, (record { first = refl; second = refl }, tt)))), (tt, tt)), tt)
+
 taker_typed : IsTypedStmt taker (main_of taker)
 unfolding IsTypedStmt hidden-the_row-Stmt-0 hidden-the_row-Stmt-1 denote.Hole.Carrier.hidden AreTypedSteps hidden-the_row-Step-0 steps_layout layout_of layout_with rows
 taker_typed = ((tt, (((tt, refl), (tt, refl)), (tt, tt))), tt)
+
 copier_typed : IsTypedStmt copier (main_of copier)
 unfolding IsTypedStmt hidden-the_row-Stmt-0 hidden-the_row-Stmt-1 denote.Hole.Carrier.hidden AreTypedSteps hidden-the_row-Step-0 steps_layout layout_of layout_with rows are_fixed
 copier_typed = (((layout_of copier 0, record { typed = (tt, refl); fixed = refl }, record { typed = (tt, refl); fixed = refl }), (tt, tt)), tt)
+
 adder_typed : IsTypedStmt adder (main_of adder)
 unfolding IsTypedStmt hidden-the_row-Stmt-0 hidden-the_row-Stmt-1 denote.Hole.Carrier.hidden AreTypedSteps hidden-the_row-Step-0 steps_layout layout_of layout_with rows converts type_of
 adder_typed = ((((tt, refl), (refl, record { first = refl; second = refl })), (tt, tt)), tt)

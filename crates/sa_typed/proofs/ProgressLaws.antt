@@ -170,7 +170,6 @@ module _ (test : ℤ → Bool) where
           fed_last (reads a) tape (eval w here st a tape) (λ x tape. given p (converted num x) tape) (eval_ok a tape h) (λ x rest. given_ok p (converted num x) rest)
       eval_ok (Chain' n (more_of-Expr a end_of-Expr) m ls) tape h =
           links_ok ls (reads a) tape (eval w here st a tape) (right_passes (takes w a) (links_take w ls) h) (eval_ok a tape (left_passes (takes w a) (links_take w ls) h))
-
       eval_ok (And' n (more_of-Expr a end_of-Expr) m rest) tape h =
           and_ok rest (reads a) tape (eval w here st a tape) (right_passes (takes w a) (all_of_take w rest) h) (eval_ok a tape (left_passes (takes w a) (all_of_take w rest) h))
       eval_ok (Or' n (more_of-Expr a end_of-Expr) m rest) tape h =

@@ -17,7 +17,6 @@ unfoldable mutual
   is_constant (Prefix' op p num n (more_of-Expr a end_of-Expr)) = is_constant a
   is_constant (Cast' p num n (more_of-Expr a end_of-Expr)) = is_constant a
   is_constant (Chain' n (more_of-Expr a end_of-Expr) m ls) = is_constant a && are_constant ls
-
   is_constant (And' n (more_of-Expr a end_of-Expr) m rest) = is_constant a && all_are_constant rest
   is_constant (Or' n (more_of-Expr a end_of-Expr) m rest) = is_constant a && all_are_constant rest
   is_constant (Choice' n (more_of-Expr a end_of-Expr) m (more_of-Expr b end_of-Expr) l (more_of-Expr c end_of-Expr) num) = is_constant a && (is_constant b && is_constant c)
@@ -55,7 +54,6 @@ unfoldable mutual
   constant_value (Prefix' op p num n (more_of-Expr a end_of-Expr)) = then_ok (constant_value a) (prefixed op num)
   constant_value (Cast' p num n (more_of-Expr a end_of-Expr)) = then_ok (constant_value a) (converted num)
   constant_value (Chain' n (more_of-Expr a end_of-Expr) m ls) = constant_links ls (constant_value a)
-
   constant_value (And' n (more_of-Expr a end_of-Expr) m rest) = constant_ands rest (constant_value a)
   constant_value (Or' n (more_of-Expr a end_of-Expr) m rest) = constant_ors rest (constant_value a)
   constant_value (Choice' n (more_of-Expr a end_of-Expr) m (more_of-Expr b end_of-Expr) l (more_of-Expr c end_of-Expr) num) =

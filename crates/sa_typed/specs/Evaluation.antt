@@ -103,7 +103,6 @@ unfoldable mutual
   eval w here st (Prefix' op p num n (more_of-Expr a end_of-Expr)) tape = then_value (eval w here st a tape) (λ x tape. given p (prefixed op num x) tape)
   eval w here st (Cast' p num n (more_of-Expr a end_of-Expr)) tape = then_value (eval w here st a tape) (λ x tape. given p (converted num x) tape)
   eval w here st (Chain' n (more_of-Expr a end_of-Expr) m ls) tape = links_value w here st ls (eval w here st a tape)
-
   eval w here st (And' n (more_of-Expr a end_of-Expr) m rest) tape = and_value w here st rest (eval w here st a tape)
   eval w here st (Or' n (more_of-Expr a end_of-Expr) m rest) tape = or_value w here st rest (eval w here st a tape)
   eval w here st (Choice' n (more_of-Expr a end_of-Expr) m (more_of-Expr b end_of-Expr) l (more_of-Expr c end_of-Expr) num) tape =

@@ -230,13 +230,13 @@ abbrev pub delivered : Setting → Activation → Option Destination → State �
 delivered w act None st = Goes st
 delivered w act (Some d) st =
     with_value st
-        (then_value (access_place w (here_in act st) st.store d.place st.tape) (λ a tape. then_value (given d.pos (converted d.num st.result) tape) (λ z tape. Gives (strong_update a z st.store) tape)))
-        (λ store st. Goes (with_store st store))
+    (then_value (access_place w (here_in act st) st.store d.place st.tape) (λ a tape. then_value (given d.pos (converted d.num st.result) tape) (λ z tape. Gives (strong_update a z st.store) tape)))
+    (λ store st. Goes (with_store st store))
 
 abbrev pub called : Program → Setting → Bodies → Activation → Pos → ℕ → List Arg → Option Destination → State → Result
 called p w bodies act q f args dest st =
     with_value st (entered p w act q f args st)
-        (λ b st. then_state (bodies f (record { path = act.path ++ q ∷ []; base = b.base }) (with_store st b.store)) (λ st. delivered w act dest st))
+    (λ b st. then_state (bodies f (record { path = act.path ++ q ∷ []; base = b.base }) (with_store st b.store)) (λ st. delivered w act dest st))
 
 -- ---- branches
 -- by whether a condition is another number than 0 (ISO C 6.8.4.1p2)

@@ -70,7 +70,6 @@ unfoldable mutual
   reads (Prefix' op p num n (more_of-Expr a end_of-Expr)) = reads a
   reads (Cast' p num n (more_of-Expr a end_of-Expr)) = reads a
   reads (Chain' n (more_of-Expr a end_of-Expr) m ls) = reads a + links_reads ls
-
   reads (And' n (more_of-Expr a end_of-Expr) m rest) = reads a + all_of_reads rest
   reads (Or' n (more_of-Expr a end_of-Expr) m rest) = reads a + all_of_reads rest
   reads (Choice' n (more_of-Expr a end_of-Expr) m (more_of-Expr b end_of-Expr) l (more_of-Expr c end_of-Expr) num) = reads a + (reads b + reads c)
@@ -132,7 +131,6 @@ unfoldable mutual
   takes w (Prefix' op p num n (more_of-Expr a end_of-Expr)) z = takes w a z
   takes w (Cast' p num n (more_of-Expr a end_of-Expr)) z = takes w a z
   takes w (Chain' n (more_of-Expr a end_of-Expr) m ls) z = takes w a z && links_take w ls z
-
   takes w (And' n (more_of-Expr a end_of-Expr) m rest) z = takes w a z && all_of_take w rest z
   takes w (Or' n (more_of-Expr a end_of-Expr) m rest) z = takes w a z && all_of_take w rest z
   takes w (Choice' n (more_of-Expr a end_of-Expr) m (more_of-Expr b end_of-Expr) l (more_of-Expr c end_of-Expr) num) z = takes w a z && (takes w b z && takes w c z)

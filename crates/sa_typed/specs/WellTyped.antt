@@ -92,7 +92,6 @@ unfoldable mutual
   IsTypedExpr p (Prefix' op q num n (more_of-Expr a end_of-Expr)) = IsTypedExpr p a × IsTrue (converts (type_of a) num)
   IsTypedExpr p (Cast' q num n (more_of-Expr a end_of-Expr)) = IsTypedExpr p a
   IsTypedExpr p (Chain' n (more_of-Expr a end_of-Expr) m ls) = IsTypedExpr p a × AreTypedLinks p (type_of a) ls
-
   IsTypedExpr p (And' n a m rest) = ⊥
   IsTypedExpr p (Or' n a m rest) = ⊥
   IsTypedExpr p (Choice' n a m b l c num) = ⊥

@@ -10,7 +10,7 @@ of-requires-clause-clock c = clock-small
 pub of-requires-clause-spans : goal.of-requires-clause-spans
 of-requires-clause-spans c =
     spans_of_map (λ v. v.items) c.in_ok-inputs.inputs.items (map whole_type c.args.program.now.inputs)
-        (c.in_ok-inputs.ensures ∙ ap (map whole_type) c.as_slice.ensures) (ordered_types c.args.program.now.inputs)
+    (c.in_ok-inputs.ensures ∙ ap (map whole_type) c.as_slice.ensures) (ordered_types c.args.program.now.inputs)
 
 pub returns-clause-value : goal.returns-clause-value
 unfolding clock_unless_told
