@@ -1,5 +1,5 @@
 -- The least range over ticks from one to another: taken tick by tick, and span by span.
-use Rattle.std.proofs.Common.{◌≡◌, ℕ, zero, suc, ◌+◌, ◌-◌, ◌<◌, ◌≤◌, ℤ, pos, ◌≤ℤ◌, Bool, true, false, List, [], ◌∷◌, arith, refl, sym, ap, ap₂, subst, ◌∙◌, drop, drop-cons, add-one, ◌^◌, lit≤}
+use Rattle.std.proofs.Common.{◌≡◌, ℕ, zero, suc, ◌+◌, ◌-◌, ◌<◌, ◌≤◌, ℤ, pos, ◌≤ℤ◌, true, false, List, [], ◌∷◌, arith, refl, sym, ap, ap₂, subst, ◌∙◌, drop, drop-cons, add-one}
 use Rattle.std.specs.Prelude.{nat_le, nat_lt as ltb, if◌then◌else◌, length, map, get_or}
 use Rattle.std.specs.List.{All, AllZip}
 use Rattle.std.proofs.lemmas.List.Elements.{All-map}
@@ -12,7 +12,7 @@ use Rattle.sa_base.specs.declared.num.Num.{Num}
 use Rattle.sa_base.specs.declared.num.Num.TheVariants.{I8, U8, I16, U16, I32, U32, I64, U64}
 use Rattle.sa_typed.specs.declared.program.Input.{Input}
 use Rattle.sa_typed.specs.Evaluation.{Range}
-use Rattle.sa_typed.specs.Ranges.{Span, InputRanges, spans_of, range, from_span, at, RiseAbove, AreSpans, IsInside, HoldsAll, IsLeastRange, joined, over_ticks, between, spans_of_type, whole_type, widest, IsOfType, AreOf, clock_unless_told}
+use Rattle.sa_typed.specs.Ranges.{Span, InputRanges, spans_of, range, from_span, at, RiseAbove, AreSpans, IsInside, HoldsAll, IsLeastRange, joined, over_ticks, between, spans_of_type, whole_type, IsOfType}
 use Rattle.sa_typed.specs.Gathering.{with_span, gathered}
 
 inside_itself : (r : Range) → IsInside r r
@@ -54,8 +54,8 @@ least_of_same f g from to r same h = record {
 by_first : (f : ℕ → Range) (t end u : ℕ) (r : Range) → IsInside (f t) r → (suc t ≤ u → u ≤ end → IsInside (f u) r) → t ≤ u → u ≤ end → IsInside (f u) r
 by_first f t end u r here later a b =
     elim (ltb t u) as (λ v. ltb t u ≡ v → IsInside (f u) r) [
-      true ↦ λ e. later (grind (arith, nat_tests)) b
-    | false ↦ λ e. let same : t ≡ u = grind (arith, nat_tests) in subst (λ v. IsInside (f v) r) same here
+      | true ↦ λ e. later (grind (arith, nat_tests)) b
+      | false ↦ λ e. let same : t ≡ u = grind (arith, nat_tests) in subst (λ v. IsInside (f v) r) same here
     ] refl
 
 over_ticks-least : (spans : List Span) (t more : ℕ) → IsLeastRange (at spans) t (t + more) (over_ticks spans t more)
@@ -105,11 +105,11 @@ held_before : (f : ℕ → Range) (p : ℕ) (s : Span) (from to : ℕ) (q : Rang
     HoldsAll (then_span f s) from to q → HoldsAll f from to q
 held_before f p s from to q stays above after within all t a b =
     elim (nat_le s.0 t) as (λ v. nat_le s.0 t ≡ v → IsInside (f t) q) [
-      true ↦ λ e.
+      | true ↦ λ e.
           let last : f t ≡ f (s.0 - 1) = stays t (grind (arith, nat_tests)) ∙ sym (stays (s.0 - 1) (omega arith)) in
           let same : then_span f s (s.0 - 1) ≡ f (s.0 - 1) = grind (arith, nat_tests) in
           subst (λ x. IsInside x q) (same ∙ sym last) (all (s.0 - 1) (omega arith) (omega arith))
-    | false ↦ λ e. let same : then_span f s t ≡ f t = grind (arith, nat_tests, e) in subst (λ x. IsInside x q) same (all t a b)
+      | false ↦ λ e. let same : then_span f s t ≡ f t = grind (arith, nat_tests, e) in subst (λ x. IsInside x q) same (all t a b)
     ] refl
 
 -- a span that begins between them
@@ -119,9 +119,9 @@ begins_between f p s from to r stays above after within k =
     let e = range (s.1, s.2) in
     record {
       holds = λ t a b. elim (nat_le s.0 t) as (λ v. IsInside (if v then e else f t) (joined r e)) [
-          true ↦ second_inside r e
+        | true ↦ second_inside r e
         | false ↦ inside_trans (f t) r (joined r e) (k.holds t a b) (first_inside r e)
-        ];
+      ];
       least = λ q all. joined_inside r e q
           (k.least q (λ t a b. held_before f p s from to q stays above after within all t a b))
           (let same : then_span f s s.0 ≡ e = grind (arith, nat_tests) in subst (λ x. IsInside x q) same (all s.0 (omega arith) within));
@@ -143,12 +143,12 @@ with_span-least : (f : ℕ → Range) (p : ℕ) (s : Span) (from to : ℕ) (r : 
     IsLeastRange f from to r → IsLeastRange (then_span f s) from to (with_span from to r s)
 with_span-least f p s from to r o stays above k =
     elim (nat_le s.0 from) as (λ v. nat_le s.0 from ≡ v → IsLeastRange (then_span f s) from to (with_span from to r s)) [
-      true ↦ λ e. let h : s.0 ≤ from = grind (arith, nat_tests) in rw (at_begun from to r s h) (begun f s from to o h)
-    | false ↦ λ e. let h : from < s.0 = grind (arith, nat_tests) in
-        elim (nat_le s.0 to) as (λ v. nat_le s.0 to ≡ v → IsLeastRange (then_span f s) from to (with_span from to r s)) [
-          true ↦ λ e. let i : s.0 ≤ to = grind (arith, nat_tests) in rw (at_between from to r s h i) (begins_between f p s from to r stays above h i k)
-        | false ↦ λ e. let i : to < s.0 = grind (arith, nat_tests) in rw (at_not_begun from to r s h i) (not_begun f s from to r i k)
-        ] refl
+      | true ↦ λ e. let h : s.0 ≤ from = grind (arith, nat_tests) in rw (at_begun from to r s h) (begun f s from to o h)
+      | false ↦ λ e. let h : from < s.0 = grind (arith, nat_tests) in
+          elim (nat_le s.0 to) as (λ v. nat_le s.0 to ≡ v → IsLeastRange (then_span f s) from to (with_span from to r s)) [
+            | true ↦ λ e. let i : s.0 ≤ to = grind (arith, nat_tests) in rw (at_between from to r s h i) (begins_between f p s from to r stays above h i k)
+            | false ↦ λ e. let i : to < s.0 = grind (arith, nat_tests) in rw (at_not_begun from to r s h i) (not_begun f s from to r i k)
+          ] refl
     ] refl
 
 gathered-least : (f : ℕ → Range) (p : ℕ) (spans : List Span) (from to : ℕ) (r : Range) → from ≤ to → StaysFrom p f → RiseAbove p spans →
@@ -165,7 +165,7 @@ spans-least (s ∷ rest) from to h o =
     let none : ℕ → Range = λ _. range (pos 0, pos 0) in
     let a : s.0 ≤ from = omega (arith, h.0) in
     gathered-least (then_span none s) s.0 rest from to (with_span from to (range (pos 0, pos 0)) s) o (λ t a. grind (arith, nat_tests)) h.1
-        (rw (at_begun from to (range (pos 0, pos 0)) s a) (begun none s from to o a))
+    (rw (at_begun from to (range (pos 0, pos 0)) s a) (begun none s from to o a))
 
 -- a step of the loop
 pub gathered-step : (from to : ℕ) (r : Range) (spans : List Span) (i : ℕ) (d : Span) → i < length spans →
@@ -225,7 +225,3 @@ whole_is_of num = λ k d below. let here : k ≡ 0 = omega arith in rw here (end
 pub types_suit : (inputs : List Input) → AllZip (λ spans input. All (IsOfType input.num) spans) (map whole_type inputs) inputs
 types_suit [] = tt
 types_suit (x ∷ xs) = (whole_is_of x.num, types_suit xs)
-
-pub clock-small : clock_unless_told ≤ 2 ^ 62
-unfolding clock_unless_told
-clock-small = lit≤ tt

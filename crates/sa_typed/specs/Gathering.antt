@@ -1,3 +1,4 @@
+-- No promise of the top calls rests on this page: it is for laws beside them, for proofs and for inner functions.
 -- Spans taken one after another: the range over ticks from one to another that they give so far.
 use Rattle.std.specs.Prelude.{ℕ, List, [], ◌∷◌, nat_le, if◌then◌else◌}
 use Rattle.sa_typed.specs.Evaluation.{Range}

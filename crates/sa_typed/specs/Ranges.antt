@@ -1,3 +1,4 @@
+-- No promise of the top calls rests on this page: it is for laws beside them, for proofs and for inner functions.
 -- The ranges of a program's inputs, which may change with the clock, and the last clock.
 use Rattle.std.specs.Prelude.{ℕ, zero, suc, ◌-◌, ◌^◌, ◌<◌, ◌≤◌, ℤ, ◌≤ℤ◌, pos, ◌≡◌, List, [], ◌∷◌, map, IsTrue, get_or, nat_le, if◌then◌else◌}
 use Rattle.std.specs.Int.{int_min, int_max}
