@@ -1,5 +1,5 @@
 -- The least range over ticks from one to another: taken tick by tick, and span by span.
-use Rattle.std.proofs.Common.{◌≡◌, ℕ, zero, suc, ◌+◌, ◌-◌, ◌<◌, ◌≤◌, ℤ, pos, ◌≤ℤ◌, Bool, true, false, List, [], ◌∷◌, arith, refl, sym, ap, ap₂, subst, ◌∙◌, drop, drop-cons, add-one, ◌^◌, lit≤}
+use Rattle.std.proofs.Common.{◌≡◌, ℕ, zero, suc, ◌+◌, ◌-◌, ◌<◌, ◌≤◌, ℤ, pos, ◌≤ℤ◌, true, false, List, [], ◌∷◌, arith, refl, sym, ap, ap₂, subst, ◌∙◌, drop, drop-cons, add-one}
 use Rattle.std.specs.Prelude.{nat_le, nat_lt as ltb, if◌then◌else◌, length, map, get_or}
 use Rattle.std.specs.List.{All, AllZip}
 use Rattle.std.proofs.lemmas.List.Elements.{All-map}
@@ -12,7 +12,7 @@ use Rattle.sa_base.specs.declared.num.Num.{Num}
 use Rattle.sa_base.specs.declared.num.Num.TheVariants.{I8, U8, I16, U16, I32, U32, I64, U64}
 use Rattle.sa_typed.specs.declared.program.Input.{Input}
 use Rattle.sa_typed.specs.Evaluation.{Range}
-use Rattle.sa_typed.specs.Ranges.{Span, InputRanges, spans_of, range, from_span, at, RiseAbove, AreSpans, IsInside, HoldsAll, IsLeastRange, joined, over_ticks, between, spans_of_type, whole_type, widest, IsOfType, AreOf, clock_unless_told}
+use Rattle.sa_typed.specs.Ranges.{Span, InputRanges, spans_of, range, from_span, at, RiseAbove, AreSpans, IsInside, HoldsAll, IsLeastRange, joined, over_ticks, between, spans_of_type, whole_type, IsOfType}
 use Rattle.sa_typed.specs.Gathering.{with_span, gathered}
 
 inside_itself : (r : Range) → IsInside r r
@@ -225,7 +225,3 @@ whole_is_of num = λ k d below. let here : k ≡ 0 = omega arith in rw here (end
 pub types_suit : (inputs : List Input) → AllZip (λ spans input. All (IsOfType input.num) spans) (map whole_type inputs) inputs
 types_suit [] = tt
 types_suit (x ∷ xs) = (whole_is_of x.num, types_suit xs)
-
-pub clock-small : clock_unless_told ≤ 2 ^ 62
-unfolding clock_unless_told
-clock-small = lit≤ tt

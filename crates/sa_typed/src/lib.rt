@@ -3,7 +3,7 @@
 //! It stands on `sa_base` and the lemmas of `sa_numbers`. `specs/` has the meaning of C for these programs: how a number is converted and an operator
 //! applied (`Arithmetic`), how an expression is evaluated over a store, a tape and a clock (`Evaluation`), what an execution
 //! does (`Executions`), which cells a program has (`Cells`) and when a line of a report is true (`Lines`). Nothing here knows
-//! an interval.
+//! an interval. `Ranges` says in which numbers inputs lie as the clock goes on.
 #![tactic(auto)]
 
 mod arithmetic;

@@ -1,12 +1,13 @@
 //! Tables of cases. Their values are those of ISO C for these widths, worked by hand.
 
 ghost use Rattle.std.specs.Prelude.{◌≡◌, [], ◌∷◌, IsTrue, IfOk};
+ghost use Rattle.sa_typed.specs.Ranges.{AreSpans};
 ghost use Rattle.sa_base.specs.declared.num.Num.TheVariants.{I32};
 ghost use Rattle.sa_typed.specs.Arithmetic.{IsOperand};
 ghost use Rattle.sa_typed.specs.declared.expr.Expr.TheVariants as expr;
 
 use super::*;
-use sa_base::{Kind, Num, OutOfMemory, Pos};
+use sa_base::{Kind, Num, OutOfMemory, Pos, Text};
 use sqlite_items::{Boxed, Items};
 use std::alloc::Global;
 use std::test::Fail;
@@ -521,5 +522,70 @@ fn constant_parts(rt: HostRuntime) -> Result<(), Fail> {
         let choice = Expr::Choice(Boxed::new(alloc, term(a))?, first, second, Num::I32);
         assert_eq!(rt; is_constant(&choice), want, "{a} ? {b} : {c}");
     }
+    Ok(())
+}
+
+/// The least range of an input with these spans at the ticks from `from` to `to`; None where there is no tick.
+fn range_of(
+    alloc: Global,
+    spans: &[(u64, i128, i128)],
+    from: u64,
+    to: u64,
+) -> Result<Option<(i128, i128)>, OutOfMemory>
+    requires { AreSpans spans.now }
+{
+    let mut inputs = Vec::new(alloc);
+    inputs.push(Vec::from_slice(alloc, spans)?)?;
+    let ranges = Ranges::of(10, inputs);
+    if from <= to {
+        Ok(Some(ranges.between(0, from, to)))
+    } else {
+        Ok(None)
+    }
+}
+
+#[test]
+fn ranges_over_ticks(rt: HostRuntime) -> Result<(), Fail> {
+    for (from, to, want) in [
+        (0, 0, (1, 1)),
+        (0, 4, (1, 1)),
+        (0, 5, (0, 9)),
+        (5, 5, (0, 9)),
+        (4, 6, (-3, 9)),
+        (6, 6, (-3, 2)),
+        (6, 10, (-3, 2)),
+        (7, u64::MAX, (-3, 2)),
+        (0, u64::MAX, (-3, 9)),
+    ] {
+        let range = range_of(rt.alloc(), &[(0, 1, 1), (5, 0, 9), (6, -3, 2)], from, to)?;
+        assert_eq!(rt; range, Some(want), "{from} to {to}");
+    }
+    Ok(())
+}
+
+#[test]
+fn ranges_of_types(rt: HostRuntime) -> Result<(), Fail> {
+    let alloc = rt.alloc();
+    let mut inputs = Items::new(alloc);
+    inputs.push(Input {
+        name: Text::of(alloc, "u")?,
+        num: Num::U8,
+    })?;
+    inputs.push(Input {
+        name: Text::of(alloc, "v")?,
+        num: Num::I32,
+    })?;
+    let program = Program {
+        structs: Items::new(alloc),
+        vars: Items::new(alloc),
+        inputs,
+        funcs: Items::new(alloc),
+        entry: 0,
+        thresholds: Items::new(alloc),
+    };
+    let ranges = Ranges::widest(alloc, &program)?;
+    assert_eq!(rt; ranges.max_clock(), 3_600_000);
+    assert_eq!(rt; ranges.between(0, 0, 10), (0, 255));
+    assert_eq!(rt; ranges.between(1, 7, 7), (INT_MIN, INT_MAX));
     Ok(())
 }

@@ -1,5 +1,5 @@
-use Rattle.std.proofs.Common.{◌∙◌, ◌≡◌, sym, pos, arith}
-use Rattle.sa_typed.specs.Ranges.{Span, range, at, IsLeastRange}
+use Rattle.std.proofs.Common.{◌∙◌, ◌≡◌, sym, pos}
+use Rattle.sa_typed.specs.Ranges.{Span, range, at}
 use Rattle.sa_typed.specs.Gathering.{gathered}
 use Rattle.sa_typed.proofs.SpanLaws.{least_is_one, spans-least, between-least, gathered-step, gathered-end}
 use Rattle.sa_typed.proofs.ranges.over_spans.Goals as goal

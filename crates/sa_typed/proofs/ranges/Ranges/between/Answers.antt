@@ -1,5 +1,5 @@
 use Rattle.std.proofs.Common.{◌≡◌, ◌∙◌, sym, ap, [], subst, length, ◌<◌}
-use Rattle.sa_typed.specs.Ranges.{Span, AreSpans, IsLeastRange, range, at, between, spans_of}
+use Rattle.sa_typed.specs.Ranges.{spans_of}
 use Rattle.sa_typed.proofs.SpanLaws.{spans_found}
 use Rattle.sa_typed.proofs.ranges.Ranges.between.Goals as goal
 

@@ -1,11 +1,7 @@
-use Rattle.std.proofs.Common.{◌≡◌, ◌∙◌, sym, ap, subst, List, map}
-use Rattle.sa_typed.specs.Ranges.{Span, InputRanges, AreOf, clock_unless_told, whole_type, widest}
-use Rattle.sa_typed.proofs.SpanLaws.{ordered_types, spans_of_map, types_suit, clock-small}
+use Rattle.std.proofs.Common.{◌∙◌, sym, ap, subst, List, map}
+use Rattle.sa_typed.specs.Ranges.{Span, InputRanges, AreOf, clock_unless_told, whole_type}
+use Rattle.sa_typed.proofs.SpanLaws.{ordered_types, spans_of_map, types_suit}
 use Rattle.sa_typed.proofs.ranges.Ranges.widest.Goals as goal
-
-pub of-requires-clause-clock : goal.of-requires-clause-clock
-unfolding clock_unless_told
-of-requires-clause-clock c = clock-small
 
 pub of-requires-clause-spans : goal.of-requires-clause-spans
 of-requires-clause-spans c =
