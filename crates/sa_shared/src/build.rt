@@ -7,7 +7,7 @@ ghost use Rattle.sa_shared.specs.Forest.{reached};
 ghost use Rattle.sa_shared.specs.Tree.{IsTree, tree_at, values, Extends};
 
 use crate::OutOfMemory;
-use crate::nodes::{Node, Nodes, Root, push_node};
+use crate::nodes::{Node, Nodes, Root, leaf_of, push_node};
 use crate::slot::Slot;
 use std::alloc::{AllocError, Global};
 
@@ -29,7 +29,10 @@ pub(crate) fn build<T: Drop>(
     }
     if slots == 1 {
         return match list.pop() {
-            Some(value) => push_node(base, nodes, Node::Leaf(value)),
+            Some(value) => {
+                let leaf = leaf_of(*nodes.allocator(), value)?;
+                push_node(base, nodes, leaf)
+            }
             None => unreachable!(),
         };
     }
@@ -64,7 +67,8 @@ impl<'a, T: Slot> Nodes<'a, T> {
         }
         if slots == 1 {
             let value = self.value(number).copy(self.allocator())?;
-            return keep(number, Node::Leaf(value), places, nodes);
+            let leaf = leaf_of(self.allocator(), value)?;
+            return keep(number, leaf, places, nodes);
         }
         let (left, right) = self.halves(slots, number);
         let behind = slots / 2;

@@ -3,9 +3,11 @@
 ghost use Rattle.std.specs.Prelude.{◌≡◌, ◌⊎◌, ℕ, ◌+◌, ◌-◌, ◌*◌, ◌/◌, ◌<◌, ◌≤◌, ◌++◌, [], ◌∷◌, length, slice_get, unwrap_or, Some, IfOk, IfSome, OnErr};
 ghost use Rattle.sa_shared.specs.Tree.{leaf, fork, values, IsBalanced, IsTree, tree_at, Extends};
 ghost use Rattle.sa_shared.specs.Walks.{IsKept, some_count};
+ghost use Rattle.sa_shared.specs.declared.nodes.Node.TheVariants.{Leaf};
 
 use crate::OutOfMemory;
 use crate::build::build;
+use sqlite_items::Boxed;
 use std::alloc::{AllocError, Global};
 use std::marker::Model;
 
@@ -21,8 +23,8 @@ pub struct Root {
 pub(crate) enum Node<T> {
     /// The tree of no slots.
     Empty,
-    /// The tree of one slot.
-    Leaf(T),
+    /// The tree of one slot. Its value stands apart, so that a fork isn't as large as a value.
+    Leaf(Boxed<T>),
     Fork(u32, u32),
 }
 
@@ -82,7 +84,7 @@ impl<'a, T> Nodes<'a, T> {
         ensures { tree_at self.now number ≡ leaf number result.now }
     {
         match self.at(number) {
-            Node::Leaf(value) => value,
+            Node::Leaf(value) => value.get(),
             Node::Empty | Node::Fork(..) => unreachable!(),
         }
     }
@@ -113,6 +115,16 @@ impl<'a, T: Drop> Nodes<'a, T> {
         push_node(self.base, &mut self.added, node)
     }
 
+    /// Adds a leaf, and gives its number.
+    pub(crate) fn push_leaf(&mut self, value: T) -> Result<u32, OutOfMemory>
+        ensures ok { IfOk result (λ n. (n ≡ length self.old) × (self.new ≡ self.old ++ Leaf value ∷ [])) }
+        ensures err { OnErr result (self.new ≡ self.old) }
+        ensures older { Extends self.old self.new }
+    {
+        let leaf = leaf_of(self.allocator(), value)?;
+        self.push(leaf)
+    }
+
     /// Adds the tree of the last slots of a list, which it takes from the list's end.
     pub(crate) fn build(&mut self, list: &mut Vec<T>, slots: u32) -> Result<u32, OutOfMemory>
         requires { slots ≤ length list.old.items }
@@ -135,7 +147,7 @@ impl<'a, T: Drop> Nodes<'a, T> {
     {
         match value {
             None => Ok(number),
-            Some(value) => self.push(Node::Leaf(value)),
+            Some(value) => self.push_leaf(value),
         }
     }
 
@@ -164,6 +176,13 @@ impl<'a, T: Drop> Nodes<'a, T> {
         }
         self.push(Node::Fork(new.0, new.1))
     }
+}
+
+/// The leaf with a value.
+pub(crate) fn leaf_of<T: Drop>(alloc: Global, value: T) -> Result<Node<T>, OutOfMemory>
+    ensures { IfOk result (λ leaf. leaf ≡ Leaf value) }
+{
+    Ok(Node::Leaf(Boxed::new(alloc, value)?))
 }
 
 /// Adds a node to those that stand behind a base, and gives its number among all. There is no room for more than 32

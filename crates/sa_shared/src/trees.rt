@@ -122,7 +122,7 @@ impl<'a, T: Slot> Nodes<'a, T> {
         }
         if slots == 1 {
             let joined = self.value(a).join(self.allocator(), self.value(b))?;
-            return self.push(Node::Leaf(joined));
+            return self.push_leaf(joined);
         }
         let (left, right) = self.halves(slots, a);
         let (other_left, other_right) = self.halves(slots, b);

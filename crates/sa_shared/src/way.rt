@@ -42,7 +42,7 @@ impl<'a, T: Drop> Nodes<'a, T> {
         ensures nodes { length self.new ≤ length self.old + way_length (tree_at self.old root) slot }
     {
         let mut way = self.way(slots, root, slot)?;
-        let mut made = self.push(Node::Leaf(value))?;
+        let mut made = self.push_leaf(value)?;
         'up: while let Some(side) = way.pop() {
             made = self.push(side.over(made))?;
         }

@@ -1,4 +1,4 @@
-use Rattle.std.proofs.Common.{rules, ◌≡◌, ◌/◌, ◌++◌, length, length-append, append_assoc, sym, ap, ◌∙◌, subst, arith, append-nil}
+use Rattle.std.proofs.Common.{rules, ◌≡◌, ◌/◌, ◌++◌, [], ◌∷◌, length, length-append, append_assoc, sym, ap, ◌∙◌, subst, arith, append-nil}
 use Rattle.sa_shared.specs.Tree.{IsTree, tree_at, values}
 use Rattle.sa_shared.proofs.Lists.{if_ok_on}
 use Rattle.sa_shared.proofs.Unfolding.{size, emptied, leafed, forked, tree_kept}
@@ -20,14 +20,16 @@ pub returns-then-slots-eq1-clause-tree : goal.returns-then-slots-eq1-clause-tree
 returns-then-slots-eq1-clause-tree g t c =
     if_ok_on c.push_node-in-Some.result _ _ c.push_node-in-Some.ensures.ok
     (λ n h. subst (λ m. IsTree (c.args.base.now ++ c.push_node-in-Some.new.nodes.items) m n) (sym c.if-slots-eq1.true)
-    (leafed (c.args.base.now ++ c.args.nodes.now.items) (c.args.base.now ++ c.push_node-in-Some.new.nodes.items) c.in-Some.value n h.0 h.1).0)
+    (leafed (c.args.base.now ++ c.args.nodes.now.items) (c.args.base.now ++ c.push_node-in-Some.new.nodes.items) c.in-Some.value n h.0
+    (h.1 ∙ ap (λ x. (c.args.base.now ++ c.args.nodes.now.items) ++ x ∷ []) c.in_ok-leaf-in-Some.ensures)).0)
 
 pub returns-then-slots-eq1-clause-list : goal.returns-then-slots-eq1-clause-list
 returns-then-slots-eq1-clause-list g t c =
     let rest = c.pop.new.self.items in
     if_ok_on c.push_node-in-Some.result _ _ c.push_node-in-Some.ensures.ok
     (λ n h. c.in-Some.ensures.items
-    ∙ ap (λ l. rest ++ l) (sym (leafed (c.args.base.now ++ c.args.nodes.now.items) (c.args.base.now ++ c.push_node-in-Some.new.nodes.items) c.in-Some.value n h.0 h.1).1))
+    ∙ ap (λ l. rest ++ l) (sym (leafed (c.args.base.now ++ c.args.nodes.now.items) (c.args.base.now ++ c.push_node-in-Some.new.nodes.items) c.in-Some.value n h.0
+    (h.1 ∙ ap (λ x. (c.args.base.now ++ c.args.nodes.now.items) ++ x ∷ []) c.in_ok-leaf-in-Some.ensures)).1))
 
 pub build-requires-2 : goal.build-requires-2
 build-requires-2 g t c κs within =

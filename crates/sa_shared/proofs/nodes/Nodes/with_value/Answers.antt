@@ -11,21 +11,21 @@ returns-in-None-clause-kept g c = inl (ap some_count c.in-None.is, refl)
 
 pub returns-in-Some-clause-tree : goal.returns-in-Some-clause-tree
 returns-in-Some-clause-tree g c =
-    if_ok_on c.push.result _ _ c.push.ensures.ok (λ n h. (leafed c.args.self.now c.push.new.self c.in-Some.value n h.0 h.1).0)
+    if_ok_on c.push_leaf.result _ _ c.push_leaf.ensures.ok (λ n h. (leafed c.args.self.now c.push_leaf.new.self c.in-Some.value n h.0 h.1).0)
 
 pub returns-in-Some-clause-list : goal.returns-in-Some-clause-list
 returns-in-Some-clause-list g c =
-    if_ok_on c.push.result _ _ c.push.ensures.ok
-    (λ n h x is. (leafed c.args.self.now c.push.new.self c.in-Some.value n h.0 h.1).1 ∙ ap (λ v. unwrap_or v x ∷ []) (sym c.in-Some.is))
+    if_ok_on c.push_leaf.result _ _ c.push_leaf.ensures.ok
+    (λ n h x is. (leafed c.args.self.now c.push_leaf.new.self c.in-Some.value n h.0 h.1).1 ∙ ap (λ v. unwrap_or v x ∷ []) (sym c.in-Some.is))
 
 pub returns-in-Some-clause-nodes : goal.returns-in-Some-clause-nodes
 unfolding some_count
 returns-in-Some-clause-nodes g c =
     let one : some_count c.args.value ≡ 1 = ap some_count c.in-Some.is in
-    omega (arith, one, one_more c.push.result _ _ _ c.push.ensures.ok c.push.ensures.err)
+    omega (arith, one, one_more c.push_leaf.result _ _ _ c.push_leaf.ensures.ok c.push_leaf.ensures.err)
 
 pub returns-in-Some-clause-kept : goal.returns-in-Some-clause-kept
 unfolding some_count
 returns-in-Some-clause-kept g c =
     let one : some_count c.args.value ≡ 1 = ap some_count c.in-Some.is in
-    if_ok_on c.push.result _ _ c.push.ensures.ok (λ n h. inr (omega (arith, one), omega (arith, h.0)))
+    if_ok_on c.push_leaf.result _ _ c.push_leaf.ensures.ok (λ n h. inr (omega (arith, one), omega (arith, h.0)))
