@@ -45,6 +45,13 @@ module _ {T : Type 0} where
   slotwise_together f (x ∷ xs) ys [] vs e = absurd (omega (arith, e))
   slotwise_together f (x ∷ xs) ys (u ∷ us) vs e = ap (λ l. f x u ∷ l) (slotwise_together f xs ys us vs (omega (arith, e)))
 
+  -- where any two values are alike, lists of one length are
+  pub each_any : (R : T → T → Type 0) → ((x y : T) → R x y) → (xs ys : List T) → length xs ≡ length ys → EachSlot R xs ys
+  each_any R h [] [] e = tt
+  each_any R h [] (y ∷ ys) e = absurd (omega (arith, e))
+  each_any R h (x ∷ xs) [] e = absurd (omega (arith, e))
+  each_any R h (x ∷ xs) (y ∷ ys) e = (h x y, each_any R h xs ys (omega (arith, e)))
+
   pub each_valid : (Like : T → T → Type 0) (xs : List T) → All (λ x. Like x x) xs → EachSlot Like xs xs
   each_valid Like [] all = tt
   each_valid Like (x ∷ xs) all = (all 0 x (omega arith), each_valid Like xs (λ k d less. all (suc k) d (omega arith)))

@@ -1,5 +1,6 @@
 pub mod Copies
 pub mod Forest
+pub mod Samples
 pub mod Slots
 pub mod Tree
 pub mod Walks

@@ -59,6 +59,13 @@ impl<T: Slot> Frozen<T> {
         ))
     }
 
+    /// How many slots each list has.
+    pub fn slots(&self) -> u32
+        ensures { result ≡ self.now.slots }
+    {
+        self.slots
+    }
+
     /// The root of the list that the part was made of, or of the first list that was kept when it was made.
     pub fn first(&self) -> Root
         ensures root { result ≡ self.now.first }
