@@ -11,4 +11,4 @@ put-requires c =
     let root = c.requires.root in
     let long = length_all_zip (λ (x y : ℕ). Unit {0}) (list_of layer layer.first) (list_of layer c.args.beside) root.alike in
     let slots = size _ layer.slots root.balanced in
-    each_any {T = ℕ} (λ _ _. Unit {0}) (λ x y. tt) (list_of layer layer.first) c.args.list.items (omega (arith, long, slots, c.requires.long))
+    record { alike = each_any {T = ℕ} (λ _ _. Unit {0}) (λ x y. tt) (list_of layer layer.first) c.args.list.items (omega (arith, long, slots, c.requires.long)) }
