@@ -1,5 +1,7 @@
 pub mod Copies
 pub mod Forest
+pub mod Samples
 pub mod Slots
 pub mod Tree
+pub mod Walks
 pub mod Way

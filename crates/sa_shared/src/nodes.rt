@@ -1,9 +1,13 @@
 //! Nodes in one list, those of a base first and then those that were added.
 
-ghost use Rattle.std.specs.Prelude.{◌≡◌, ℕ, ◌+◌, ◌-◌, ◌/◌, ◌<◌, ◌≤◌, ◌++◌, [], ◌∷◌, length, slice_get, Some, IfOk, IfSome, OnErr};
-ghost use Rattle.sa_shared.specs.Tree.{leaf, fork, IsBalanced, IsTree, tree_at, Extends};
+ghost use Rattle.std.specs.Prelude.{◌≡◌, ◌⊎◌, ℕ, ◌+◌, ◌-◌, ◌*◌, ◌/◌, ◌<◌, ◌≤◌, ◌++◌, [], ◌∷◌, length, slice_get, unwrap_or, Some, IfOk, IfSome, OnErr};
+ghost use Rattle.sa_shared.specs.Tree.{leaf, fork, values, IsBalanced, IsTree, tree_at, Extends};
+ghost use Rattle.sa_shared.specs.Walks.{IsKept, some_count};
+ghost use Rattle.sa_shared.specs.declared.nodes.Node.TheVariants.{Leaf};
 
 use crate::OutOfMemory;
+use crate::build::build;
+use sqlite_items::Boxed;
 use std::alloc::{AllocError, Global};
 use std::marker::Model;
 
@@ -19,8 +23,8 @@ pub struct Root {
 pub(crate) enum Node<T> {
     /// The tree of no slots.
     Empty,
-    /// The tree of one slot.
-    Leaf(T),
+    /// The tree of one slot. Its value stands apart, so that a fork isn't as large as a value.
+    Leaf(Boxed<T>),
     Fork(u32, u32),
 }
 
@@ -80,7 +84,7 @@ impl<'a, T> Nodes<'a, T> {
         ensures { tree_at self.now number ≡ leaf number result.now }
     {
         match self.at(number) {
-            Node::Leaf(value) => value,
+            Node::Leaf(value) => value.get(),
             Node::Empty | Node::Fork(..) => unreachable!(),
         }
     }
@@ -108,22 +112,91 @@ impl<'a, T: Drop> Nodes<'a, T> {
         ensures err { OnErr result (self.new ≡ self.old) }
         ensures older { Extends self.old self.new }
     {
-        push_node(self.base.len(), &mut self.added, node)
+        push_node(self.base, &mut self.added, node)
+    }
+
+    /// Adds a leaf, and gives its number.
+    pub(crate) fn push_leaf(&mut self, value: T) -> Result<u32, OutOfMemory>
+        ensures ok { IfOk result (λ n. (n ≡ length self.old) × (self.new ≡ self.old ++ Leaf value ∷ [])) }
+        ensures err { OnErr result (self.new ≡ self.old) }
+        ensures older { Extends self.old self.new }
+    {
+        let leaf = leaf_of(self.allocator(), value)?;
+        self.push(leaf)
+    }
+
+    /// Adds the tree of the last slots of a list, which it takes from the list's end.
+    pub(crate) fn build(&mut self, list: &mut Vec<T>, slots: u32) -> Result<u32, OutOfMemory>
+        requires { slots ≤ length list.old.items }
+        ensures tree { IfOk result (λ n. IsTree self.new slots n) }
+        ensures list { IfOk result (λ n. list.old.items ≡ list.new.items ++ values (tree_at self.new n)) }
+        ensures older { Extends self.old self.new }
+        ensures nodes { length self.new ≤ length self.old + (1 + 2 * (slots - 1)) }
+    {
+        build(list, slots, self.base, &mut self.added)
+    }
+
+    /// The tree of one slot with another value in it: itself where there is none, else a new node.
+    pub(crate) fn with_value(&mut self, number: u32, value: Option<T>) -> Result<u32, OutOfMemory>
+        requires { IsTree self.old 1 number }
+        ensures tree { IfOk result (λ n. IsTree self.new 1 n) }
+        ensures list { IfOk result (λ n. (x : T) → values (tree_at self.old number) ≡ x ∷ [] → values (tree_at self.new n) ≡ unwrap_or value x ∷ []) }
+        ensures older { Extends self.old self.new }
+        ensures nodes { length self.new ≤ length self.old + some_count value }
+        ensures kept { IfOk result (λ n. IsKept (some_count value) number (length self.old) n) }
+    {
+        match value {
+            None => Ok(number),
+            Some(value) => self.push_leaf(value),
+        }
+    }
+
+    /// The tree of two slots or more with new halves: itself where they are its own, else a new node.
+    pub(crate) fn with_halves(
+        &mut self,
+        slots: u32,
+        number: u32,
+        old: (u32, u32),
+        new: (u32, u32),
+    ) -> Result<u32, OutOfMemory>
+        requires some { 2 ≤ slots }
+        requires tree { IsTree self.old slots number }
+        requires halves { tree_at self.old number ≡ fork number (tree_at self.old old.0) (tree_at self.old old.1) }
+        requires left { IsTree self.old (slots - slots / 2) new.0 }
+        requires right { IsTree self.old (slots / 2) new.1 }
+        ensures tree { IfOk result (λ n. IsTree self.new slots n) }
+        ensures list { IfOk result (λ n. values (tree_at self.new n) ≡ values (tree_at self.old new.0) ++ values (tree_at self.old new.1)) }
+        ensures older { Extends self.old self.new }
+        ensures same { (new.0 ≡ old.0) × (new.1 ≡ old.1) → self.new ≡ self.old }
+        ensures nodes { length self.new ≤ length self.old + 1 }
+        ensures kept { IfOk result (λ n. (((new.0 ≡ old.0) × (new.1 ≡ old.1)) × (n ≡ number)) ⊎ (((new.0 ≡ old.0) × (new.1 ≡ old.1) → ⊥) × (n ≡ length self.old))) }
+    {
+        if new.0 == old.0 && new.1 == old.1 {
+            return Ok(number);
+        }
+        self.push(Node::Fork(new.0, new.1))
     }
 }
 
-/// Adds a node where so many stand before these, and gives its number among all. There is no room for more than
-/// 32 bits can number.
+/// The leaf with a value.
+pub(crate) fn leaf_of<T: Drop>(alloc: Global, value: T) -> Result<Node<T>, OutOfMemory>
+    ensures { IfOk result (λ leaf. leaf ≡ Leaf value) }
+{
+    Ok(Node::Leaf(Boxed::new(alloc, value)?))
+}
+
+/// Adds a node to those that stand behind a base, and gives its number among all. There is no room for more than 32
+/// bits can number.
 pub(crate) fn push_node<T: Drop>(
-    before: usize,
+    base: &[Node<T>],
     nodes: &mut Vec<Node<T>>,
     node: Node<T>,
 ) -> Result<u32, OutOfMemory>
-    ensures ok { IfOk result (λ n. (n ≡ before + length nodes.old.items) × (nodes.new.items ≡ nodes.old.items ++ node ∷ [])) }
+    ensures ok { IfOk result (λ n. (n ≡ length (base.now ++ nodes.old.items)) × (base.now ++ nodes.new.items ≡ (base.now ++ nodes.old.items) ++ node ∷ [])) }
     ensures err { OnErr result (nodes.new.items ≡ nodes.old.items) }
-    ensures older { Extends nodes.old.items nodes.new.items }
+    ensures older { Extends (base.now ++ nodes.old.items) (base.now ++ nodes.new.items) }
 {
-    let Ok(number) = u32::try_from(before.saturating_add(nodes.len())) else {
+    let Ok(number) = u32::try_from(base.len().saturating_add(nodes.len())) else {
         return Err(AllocError);
     };
     nodes.push(node)?;

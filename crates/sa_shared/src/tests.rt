@@ -1,7 +1,9 @@
-//! A tree of eight slots, with one slot set.
+//! A tree of eight slots, with one slot set, and trees of as many slots as there may be.
 
 ghost use Rattle.std.specs.Prelude.{◌≡◌, ◌<◌, IfOk, length};
 ghost use Rattle.sa_shared.specs.Forest.{Belongs, Grows};
+
+mod walks;
 
 use crate::{Frozen, Layer, Root, Slot};
 use sa_steps::Steps;
@@ -19,13 +21,12 @@ fn eight(alloc: Global) -> Result<(Frozen<u32>, Root), AllocError>
     Frozen::of(list)
 }
 
-/// The values of a root's eight slots.
+/// The values of a root's slots.
 fn list(alloc: Global, layer: &Layer<u32>, root: Root) -> Result<Vec<u32>, AllocError>
-    requires slots { layer.now.slots ≡ 8 }
     requires root { Belongs ⟦<u32 as Slot>⟧.like layer.now root }
 {
     let mut all = Vec::new(alloc);
-    for slot in 0..8u32 {
+    for slot in 0..layer.slots() {
         all.push(*layer.get(root, slot))?;
     }
     Ok(all)

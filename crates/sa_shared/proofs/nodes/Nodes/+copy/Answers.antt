@@ -47,13 +47,13 @@ pub returns-then-slots-eq1-clause-tree : goal.returns-then-slots-eq1-clause-tree
 returns-then-slots-eq1-clause-tree g t c =
     let new = c.keep-then-slots-eq1.new.nodes.items in
     if_ok_on c.keep-then-slots-eq1.result _ _ c.keep-then-slots-eq1.ensures.node
-    (λ n h. subst (λ m. IsTree new m n) (sym c.if-slots-eq1.true) (leafed c.args.nodes.now.items new c.in_ok-value.value n h.0 h.1).0)
+    (λ n h. subst (λ m. IsTree new m n) (sym c.if-slots-eq1.true) (leafed c.args.nodes.now.items new c.in_ok-value.value n h.0 (h.1 ∙ ap (λ x. c.args.nodes.now.items ++ x ∷ []) c.in_ok-leaf.ensures)).0)
 
 pub returns-then-slots-eq1-clause-list : goal.returns-then-slots-eq1-clause-list
 returns-then-slots-eq1-clause-list g t c =
     let new = c.keep-then-slots-eq1.new.nodes.items in
     if_ok_on c.keep-then-slots-eq1.result _ _ c.keep-then-slots-eq1.ensures.node
-    (λ n h. (leafed c.args.nodes.now.items new c.in_ok-value.value n h.0 h.1).1 ∙ ap (λ x. x ∷ []) c.in_ok-value.ensures ∙ sym (ap values c.value.ensures))
+    (λ n h. (leafed c.args.nodes.now.items new c.in_ok-value.value n h.0 (h.1 ∙ ap (λ x. c.args.nodes.now.items ++ x ∷ []) c.in_ok-leaf.ensures)).1 ∙ ap (λ x. x ∷ []) c.in_ok-value.ensures ∙ sym (ap values c.value.ensures))
 
 pub returns-then-slots-eq1-clause-copies : goal.returns-then-slots-eq1-clause-copies
 returns-then-slots-eq1-clause-copies g t c =
@@ -61,7 +61,7 @@ returns-then-slots-eq1-clause-copies g t c =
     let free = at_none c.args.places.now c.args.number (omega (arith, c.requires.copies.long, c.requires.tree.inside)) c.in_default.is in
     if_ok_two c.keep-then-slots-eq1.result _ _ _ c.keep-then-slots-eq1.ensures.node c.keep-then-slots-eq1.ensures.place
     (λ n h p.
-    let made = leafed c.args.nodes.now.items new c.in_ok-value.value n h.0 h.1 in
+    let made = leafed c.args.nodes.now.items new c.in_ok-value.value n h.0 (h.1 ∙ ap (λ x. c.args.nodes.now.items ++ x ∷ []) c.in_ok-leaf.ensures) in
     kept_copy c.args.self.now c.args.nodes.now.items new c.args.places.now c.keep-then-slots-eq1.new.places c.args.slots c.args.number n _
     c.requires.copies free c.requires.tree h.0 h.1 c.keep-then-slots-eq1.ensures.older
     (subst (λ m. IsTree new m n) (sym c.if-slots-eq1.true) made.0)

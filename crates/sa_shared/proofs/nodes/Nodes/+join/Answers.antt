@@ -11,7 +11,9 @@ returns-then-a-b-clause-join g t c =
     let ta = tree_at c.args.self.now c.args.a in
     let tb = tree_at c.args.self.now c.args.b in
     elim c.then-a-b.either [
-      | inl e ↦ sym (slotwise_self f g.met.T.Slot.laws.join_self (values ta)) ∙ ap (λ n. slotwise f (values ta) (values (tree_at c.args.self.now n))) e
+      | inl e ↦
+          let valid = subst (λ n. EachSlot g.T.Slot.like (values ta) (values (tree_at c.args.self.now n))) (sym e) c.requires.alike in
+          sym (slotwise_self g.T.Slot.like f g.met.T.Slot.laws.join_self (values ta) valid) ∙ ap (λ n. slotwise f (values ta) (values (tree_at c.args.self.now n))) e
       | inr w ↦
           let none : values ta ≡ [] = no_slots ta (subst (λ m. IsBalanced m ta) w.1 c.requires.first.balanced) in
           none ∙ sym (ap (λ l. slotwise f l (values tb)) none)
@@ -19,8 +21,8 @@ returns-then-a-b-clause-join g t c =
 
 pub returns-then-slots-eq1-clause-tree : goal.returns-then-slots-eq1-clause-tree
 returns-then-slots-eq1-clause-tree g t c =
-    if_ok_on c.push.result _ _ c.push.ensures.ok
-    (λ n h. subst (λ m. IsTree c.push.new.self m n) (sym c.if-slots-eq1.true) (leafed c.args.self.now c.push.new.self c.in_ok-joined.joined n h.0 h.1).0)
+    if_ok_on c.push_leaf.result _ _ c.push_leaf.ensures.ok
+    (λ n h. subst (λ m. IsTree c.push_leaf.new.self m n) (sym c.if-slots-eq1.true) (leafed c.args.self.now c.push_leaf.new.self c.in_ok-joined.joined n h.0 h.1).0)
 
 pub returns-then-slots-eq1-clause-join : goal.returns-then-slots-eq1-clause-join
 returns-then-slots-eq1-clause-join g t c =
@@ -30,11 +32,11 @@ returns-then-slots-eq1-clause-join g t c =
     let is : slotwise f (values (tree_at c.args.self.now c.args.a)) (values (tree_at c.args.self.now c.args.b)) ≡ f x y ∷ [] =
     ap (λ s. slotwise f (values s) (values (tree_at c.args.self.now c.args.b))) c.value.ensures
     ∙ ap (λ s. slotwise f (x ∷ []) (values s)) c.value-then-slots-eq1.ensures in
-    if_ok_on c.push.result _ _ c.push.ensures.ok
-    (λ n h. (leafed c.args.self.now c.push.new.self c.in_ok-joined.joined n h.0 h.1).1 ∙ ap (λ z. z ∷ []) c.in_ok-joined.ensures ∙ sym is)
+    if_ok_on c.push_leaf.result _ _ c.push_leaf.ensures.ok
+    (λ n h. (leafed c.args.self.now c.push_leaf.new.self c.in_ok-joined.joined n h.0 h.1).1 ∙ ap (λ z. z ∷ []) c.in_ok-joined.ensures ∙ sym is)
 
 pub returns-then-slots-eq1-clause-older : goal.returns-then-slots-eq1-clause-older
-returns-then-slots-eq1-clause-older g t c = c.push.ensures.older
+returns-then-slots-eq1-clause-older g t c = c.push_leaf.ensures.older
 
 pub join-requires-2 : goal.join-requires-2
 join-requires-2 g t c κs within =
@@ -57,8 +59,8 @@ pub returns-clause-tree : goal.returns-clause-tree
 returns-clause-tree g t c =
     let last = c.join-3.ensures.older in
     let left = tree_kept _ _ _ _ last c.in_ok-new_left.ensures.tree in
-    if_ok_on c.push-2.result _ _ c.push-2.ensures.ok
-    (λ n h. (forked c.join-3.new.self c.push-2.new.self c.args.slots c.in_ok-new_left.new_left c.in_ok-new_right.new_right n (omega arith)
+    if_ok_on c.push.result _ _ c.push.ensures.ok
+    (λ n h. (forked c.join-3.new.self c.push.new.self c.args.slots c.in_ok-new_left.new_left c.in_ok-new_right.new_right n (omega arith)
     left c.in_ok-new_right.ensures.tree h.0 h.1).0)
 
 pub returns-clause-join : goal.returns-clause-join
@@ -78,15 +80,15 @@ returns-clause-join g t c =
     c.in_ok-new_right.ensures.join
     ∙ ap (λ x. slotwise f (values x) (values (tree_at c.join-2.new.self c.halves-other_left.result.1))) (c.join-2.ensures.older.trees _ r.inside)
     ∙ ap (λ x. slotwise f (values (tree_at c.args.self.now c.halves-left.result.1)) (values x)) (c.join-2.ensures.older.trees _ s.inside) in
-    if_ok_on c.push-2.result _ _ c.push-2.ensures.ok
-    (λ n h. (forked c.join-3.new.self c.push-2.new.self c.args.slots c.in_ok-new_left.new_left c.in_ok-new_right.new_right n (omega arith)
+    if_ok_on c.push.result _ _ c.push.ensures.ok
+    (λ n h. (forked c.join-3.new.self c.push.new.self c.args.slots c.in_ok-new_left.new_left c.in_ok-new_right.new_right n (omega arith)
     left c.in_ok-new_right.ensures.tree h.0 h.1).1
     ∙ ap (λ l. l ++ values (tree_at c.join-3.new.self c.in_ok-new_right.new_right)) first
     ∙ ap (λ l. slotwise f (values (tree_at c.args.self.now c.halves-left.result.0)) (values (tree_at c.args.self.now c.halves-other_left.result.0)) ++ l) second
     ∙ sym all)
 
 pub returns-clause-older : goal.returns-clause-older
-returns-clause-older g t c = extends_on _ _ _ (extends_on _ _ _ c.join-2.ensures.older c.join-3.ensures.older) c.push-2.ensures.older
+returns-clause-older g t c = extends_on _ _ _ (extends_on _ _ _ c.join-2.ensures.older c.join-3.ensures.older) c.push.ensures.older
 
 pub returns-then-a-b-clause-counted : goal.returns-then-a-b-clause-counted
 returns-then-a-b-clause-counted g t c =
@@ -96,7 +98,7 @@ returns-then-a-b-clause-counted g t c =
 pub returns-then-slots-eq1-clause-counted : goal.returns-then-slots-eq1-clause-counted
 returns-then-slots-eq1-clause-counted g t c =
     let one = leaf_visit _ _ c.args.a c.args.b c.value.result.now c.value-then-slots-eq1.result.now c.value.ensures c.value-then-slots-eq1.ensures in
-    if_ok_on c.push.result _ _ c.push.ensures.ok (λ n h. omega (arith, one, c.tick.ensures))
+    if_ok_on c.push_leaf.result _ _ c.push_leaf.ensures.ok (λ n h. omega (arith, one, c.tick.ensures))
 
 pub returns-clause-counted : goal.returns-clause-counted
 returns-clause-counted g t c =
@@ -104,5 +106,5 @@ returns-clause-counted g t c =
     let older = c.join-2.ensures.older in
     let right = ap (λ x. visits x (tree_at c.join-2.new.self c.halves-other_left.result.1)) (older.trees _ c.halves-left.ensures.right.inside)
     ∙ ap (visits (tree_at c.args.self.now c.halves-left.result.1)) (older.trees _ c.halves-other_left.ensures.right.inside) in
-    if_ok_on c.push-2.result _ _ c.push-2.ensures.ok
+    if_ok_on c.push.result _ _ c.push.ensures.ok
     (λ n h. omega (arith, all, right, c.tick.ensures, c.in_ok-new_left.ensures.counted, c.in_ok-new_right.ensures.counted))
