@@ -1,0 +1,57 @@
+-- What contracts see of a shop, and what its environments stand for.
+use Rattle.std.specs.Prelude.{◌≡◌, ◌≤◌, ◌^◌, ◌≤ℤ◌, ℕ, pos, negsuc, ◌-◌, Bool, true, false, List, length, map, ⊤}
+use Rattle.std.specs.List.{All}
+use Rattle.sa_interval.specs.Span.{Span}
+use Rattle.sa_shared.specs.Forest.{Forest, list_of}
+use Rattle.sa_shared.specs.Forest as shared
+use Rattle.sa_shared.specs.Slots.{EachSlot}
+use Rattle.sa_env.specs.declared.slot.SlotValue.{SlotValue}
+use Rattle.sa_env.specs.declared.slot.SlotValue.TheVariants.{Cell}
+use Rattle.sa_env.specs.declared.env.Env.{Env}
+use Rattle.sa_env.specs.declared.env.Env.TheVariants.{Dead, Live}
+use Rattle.sa_env.specs.Slots.{spans_of, Alike}
+use Rattle.sa_env.specs.Flat.{Flat, dead, live, Limits, IsFair}
+
+-- a range whose numbers are at most 2^64 in size
+pub record IsNarrow (s : Span) : Type 0 where
+  pub low : negsuc (2 ^ 64 - 1) ≤ℤ s.lo
+  pub high : s.hi ≤ℤ pos (2 ^ 64)
+
+-- the limits, and the lists of the shop's layer and its base
+pub record Stock : Type 0 where
+  pub limits : Limits
+  pub lists : Forest SlotValue
+
+-- a shop may stand over these lists: they have one slot for each cell, with what may stand there
+pub record IsBase (l : Limits) (f : Forest SlotValue) : Type 0 where
+  pub slots : f.slots ≡ length l.tops
+  pub alike : EachSlot Alike (map Cell l.tops) (list_of f f.first)
+
+-- the shop over a base, before anything is made in it
+abbrev pub shop_over : Limits → Forest SlotValue → Stock
+shop_over l f = record { limits = l; lists = f }
+
+-- what the environment stands for
+unfoldable pub flat_of : Stock → Env → Flat
+flat_of s Dead = dead
+flat_of s (Live clock root) = live clock (spans_of (list_of s.lists root))
+
+abbrev pub is_live : Env → Bool
+is_live Dead = false
+is_live (Live clock root) = true
+
+-- its root names one of the shop's lists
+unfoldable pub IsNamed : Stock → Env → Type 0
+IsNamed s Dead = ⊤
+IsNamed s (Live clock root) = shared.Belongs Alike s.lists root
+
+-- the environment belongs to the shop and is fair
+pub record Belongs (s : Stock) (e : Env) : Type 0 where
+  pub named : IsNamed s e
+  pub fair : IsFair s.limits (flat_of s e)
+
+-- each environment of the old shop is one of the new shop, and stands there for what it stood for
+pub record Keeps (old new : Stock) : Type 0 where
+  pub limits : new.limits ≡ old.limits
+  pub belongs : (e : Env) → Belongs old e → Belongs new e
+  pub flats : (e : Env) → Belongs old e → flat_of new e ≡ flat_of old e

@@ -1,0 +1,14 @@
+//! Environments of the analysis, as lists of slots that share what they have in common.
+#![tactic(auto)]
+
+mod env;
+mod frame;
+mod shop;
+mod slot;
+
+pub use env::Env;
+pub use frame::Frame;
+pub use shop::Shop;
+pub use slot::SlotValue;
+/// Want of memory, the one answer that no clause ties to anything.
+pub use std::alloc::AllocError as OutOfMemory;
