@@ -1,11 +1,11 @@
 -- Environments as flat lists: dead, or an interval for the clock and one for each cell, in the order of the cells
 -- (Cousot and Cousot 1977; the clock as one of the variables: Blanchet and others 2003).
-use Rattle.std.specs.Prelude.{◌≡◌, ℕ, ◌+◌, ℤ, pos, ◌≤ℤ◌, Bool, true, false, ◌&&◌, if◌then◌else◌, nat_le, List, [], ◌∷◌, ◌++◌, length, map, take, drop, slice_get, slice_set, Option, None, Some, ⊤}
+use Rattle.std.specs.Prelude.{◌≡◌, ℕ, ◌+◌, ◌-◌, ◌^◌, ◌≤◌, ℤ, pos, negsuc, ◌≤ℤ◌, Bool, true, false, ◌&&◌, if◌then◌else◌, nat_le, List, [], ◌∷◌, ◌++◌, length, map, take, drop, slice_get, slice_set, Option, None, Some, ⊤}
 use Rattle.std.specs.Int.{int_min}
-use Rattle.std.specs.List.{fold, AllZip}
+use Rattle.std.specs.List.{fold, All}
 use Rattle.sa_interval.specs.Span.{Span, IsPart}
 use Rattle.sa_interval.specs.Rows.{join_of, join_some, meet_of, sum_of, single, is_part}
-use Rattle.sa_shared.specs.Slots.{slotwise}
+use Rattle.sa_shared.specs.Slots.{slotwise, EachSlot}
 use Rattle.sa_env.specs.Slots.{risen, widened_span}
 
 pub data Flat : Type 0 where
@@ -20,6 +20,16 @@ pub record Limits : Type 0 where
 abbrev pub whole_clock : Limits → Span
 whole_clock l = record { lo = pos 0; hi = pos l.max_clock }
 
+-- a range of a type: at least one number, none above 2^64 in size
+pub record IsRange (s : Span) : Type 0 where
+  pub ordered : s.lo ≤ℤ s.hi
+  pub low : negsuc (2 ^ 64 - 1) ≤ℤ s.lo
+  pub high : s.hi ≤ℤ pos (2 ^ 64)
+
+pub record AreLimits (l : Limits) : Type 0 where
+  pub tops : All IsRange l.tops
+  pub clock : l.max_clock ≤ 2 ^ 62
+
 -- ---- fairness
 -- at least one number, all of them in the range
 pub record IsIn (range s : Span) : Type 0 where
@@ -29,7 +39,7 @@ pub record IsIn (range s : Span) : Type 0 where
 -- the clock may be so, and each cell's numbers are in its range
 abbrev pub IsFair : Limits → Flat → Type 0
 IsFair l dead = ⊤
-IsFair l (live clock cells) = IsIn (whole_clock l) clock × AllZip IsIn l.tops cells
+IsFair l (live clock cells) = IsIn (whole_clock l) clock × EachSlot IsIn l.tops cells
 
 -- ---- order: below means that the second holds whatever the first holds; dead holds nothing
 abbrev pub all_parts : List Span → List Span → Bool
@@ -46,7 +56,7 @@ is_below (live t xs) (live u ys) = is_part t u && all_parts xs ys
 abbrev pub IsBelow : Flat → Flat → Type 0
 IsBelow dead b = ⊤
 IsBelow (live t xs) dead = ⊥
-IsBelow (live t xs) (live u ys) = IsPart t u × AllZip IsPart xs ys
+IsBelow (live t xs) (live u ys) = IsPart t u × EachSlot IsPart xs ys
 
 -- every clock and every number of each cell's range
 abbrev pub top_of : Limits → Flat

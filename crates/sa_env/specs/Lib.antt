@@ -1,3 +1,4 @@
 pub mod Flat
 pub mod Shop
+pub mod SlotLaws
 pub mod Slots

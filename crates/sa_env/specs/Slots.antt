@@ -1,8 +1,8 @@
 -- What stands in a slot: the interval of a cell.
-use Rattle.std.specs.Prelude.{ℕ, ℤ, List, map, if◌then◌else◌, nat_le}
+use Rattle.std.specs.Prelude.{ℕ, ℤ, List, map, if◌then◌else◌, nat_le, Option, None, Some}
 use Rattle.std.specs.Int.RustNames.{int_le}
 use Rattle.sa_interval.specs.Span.{Span, IsPart}
-use Rattle.sa_interval.specs.Rows.{join_of}
+use Rattle.sa_interval.specs.Rows.{join_of, is_part}
 use Rattle.sa_interval.specs.Widening.{widening_of}
 use Rattle.sa_env.specs.declared.slot.SlotValue.{SlotValue}
 use Rattle.sa_env.specs.declared.slot.SlotValue.TheVariants.{Cell}
@@ -41,5 +41,13 @@ spread_to top old new = record { lo = fallen top.lo old.lo new.lo; hi = risen to
 unfoldable pub widened_span : List ℤ → ℕ → Span → Span → Span → Span
 widened_span thresholds pass top old new = if nat_le pass 20 then widening_of thresholds old new top else spread_to top old new
 
-abbrev pub slot_widened : List ℤ → ℕ → SlotValue → SlotValue → SlotValue → SlotValue
-slot_widened thresholds pass (Cell top) (Cell old) (Cell new) = Cell (widened_span thresholds pass top old new)
+-- ---- the changes of a slot's value, None where it stays
+
+-- the join with a new interval
+abbrev pub slot_weakened : Span → SlotValue → Option SlotValue
+slot_weakened v (Cell s) = if is_part v s then None else Some (Cell (join_of s v))
+
+-- what a pass makes of an old and a new value, under the top
+abbrev pub slot_spread : List ℤ → ℕ → SlotValue → SlotValue → SlotValue → Option SlotValue
+slot_spread thresholds pass (Cell top) (Cell old) (Cell new) =
+    if is_part new old then None else Some (Cell (widened_span thresholds pass top old new))
