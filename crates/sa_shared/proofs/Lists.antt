@@ -1,6 +1,7 @@
 -- Lists that two halves make up, slot by slot.
 use Rattle.std.proofs.Common.{◌≡◌, ℕ, zero, suc, ◌-◌, ◌/◌, ◌≤◌, List, [], ◌∷◌, ◌++◌, length, slice_get, length-append, refl, sym, ap, ◌∙◌, subst, arith}
 use Rattle.std.specs.Prelude.{Result, Ok, Err, IfOk, slice_index_or, slice_set}
+use Rattle.std.specs.List.{All}
 use Rattle.sa_shared.specs.Slots.{slotwise, EachSlot}
 use Rattle.sa_shared.specs.Tree.{Tree, empty, leaf, fork, values, IsBalanced}
 use Rattle.sa_shared.proofs.Unfolding.{size}
@@ -44,14 +45,20 @@ module _ {T : Type 0} where
   slotwise_together f (x ∷ xs) ys [] vs e = absurd (omega (arith, e))
   slotwise_together f (x ∷ xs) ys (u ∷ us) vs e = ap (λ l. f x u ∷ l) (slotwise_together f xs ys us vs (omega (arith, e)))
 
-  -- a list is below itself, and like itself
-  pub each_self : (R : T → T → Type 0) → ((x : T) → R x x) → (xs : List T) → EachSlot R xs xs
-  each_self R h [] = tt
-  each_self R h (x ∷ xs) = (h x, each_self R h xs)
+  pub each_valid : (Like : T → T → Type 0) (xs : List T) → All (λ x. Like x x) xs → EachSlot Like xs xs
+  each_valid Like [] all = tt
+  each_valid Like (x ∷ xs) all = (all 0 x (omega arith), each_valid Like xs (λ k d less. all (suc k) d (omega arith)))
 
-  pub slotwise_self : (f : T → T → T) → ((x : T) → f x x ≡ x) → (xs : List T) → slotwise f xs xs ≡ xs
-  slotwise_self f h [] = refl
-  slotwise_self f h (x ∷ xs) = ap (λ y. y ∷ slotwise f xs xs) (h x) ∙ ap (λ l. x ∷ l) (slotwise_self f h xs)
+  -- a list of valid values is below itself
+  pub each_self : (Like R : T → T → Type 0) → ((x : T) → Like x x → R x x) → (xs : List T) → EachSlot Like xs xs → EachSlot R xs xs
+  each_self Like R h [] valid = tt
+  each_self Like R h (x ∷ xs) valid = (h x valid.0, each_self Like R h xs valid.1)
+
+  pub slotwise_self : (Like : T → T → Type 0) (f : T → T → T) → ((x : T) → Like x x → f x x ≡ x) → (xs : List T) → EachSlot Like xs xs
+      → slotwise f xs xs ≡ xs
+  slotwise_self Like f h [] valid = refl
+  slotwise_self Like f h (x ∷ xs) valid =
+      ap (λ y. y ∷ slotwise f xs xs) (h x valid.0) ∙ ap (λ l. x ∷ l) (slotwise_self Like f h xs valid.1)
 
   module _ (R : T → T → Type 0) (back : (x y : T) → R x y → R y x) (on : (x y z : T) → R x y → R y z → R x z) where
     -- two lists that are like a third are like each other
@@ -62,6 +69,10 @@ module _ {T : Type 0} where
     each_between (x ∷ xs) [] zs h k = absurd h
     each_between (x ∷ xs) (y ∷ ys) [] h k = absurd k
     each_between (x ∷ xs) (y ∷ ys) (z ∷ zs) h k = (on y x z (back x y h.0) k.0, each_between xs ys zs h.1 k.1)
+
+    -- the second of two lists that are alike is valid
+    pub each_back : (xs ys : List T) → EachSlot R xs ys → EachSlot R ys ys
+    each_back xs ys h = each_between xs ys ys h h
 
     pub each_set : (xs ys : List T) (i : ℕ) (v : T) → EachSlot R xs ys → R v (slice_index_or ys i v) → EachSlot R xs (slice_set ys i v)
     each_set [] [] i v h k = tt

@@ -1,16 +1,19 @@
 //! Layers of new lists over a frozen part.
 
-ghost use Rattle.std.specs.Prelude.{◌≡◌, ℕ, ◌+◌, ◌*◌, ◌^◌, ◌<◌, ◌≤◌, ◌↔◌, length, map, slice_get, slice_index_or, slice_set, Some, IfOk, OnOk, IsTrue};
+ghost use Rattle.std.specs.Prelude.{◌≡◌, ℕ, ◌+◌, ◌-◌, take, drop, ◌*◌, ◌^◌, ◌<◌, ◌≤◌, ◌↔◌, length, map, slice_get, slice_index_or, slice_set, Some, IfOk, OnOk, IsTrue};
 ghost use Rattle.std.specs.List.{All};
 ghost use Rattle.sa_shared.specs.Slots.{slotwise, EachSlot};
 ghost use Rattle.sa_shared.specs.Tree.{differences, visits, way_length};
+ghost use Rattle.sa_shared.specs.Walks.{in_range, changed, combined, folded, changes, combines, InRange, AtEachSlot};
 ghost use Rattle.sa_shared.specs.Forest.{list_of, tree_of, reached, Belongs, Grows};
 
 use crate::OutOfMemory;
 use crate::frozen::Frozen;
 use crate::nodes::{Nodes, Root};
 use crate::slot::Slot;
+use crate::walks::{Change, Combine, Fold};
 use sa_steps::Steps;
+use std::alloc::AllocError;
 use std::marker::Model;
 use std::sync::ledger::Ledger;
 
@@ -18,21 +21,20 @@ use std::sync::ledger::Ledger;
 /// part. A root belongs to a layer where it names a list of the layer or of its base. No call changes a node: where
 /// one answers `OutOfMemory`, every older root stands for the list that it stood for.
 #[derive(Drop)]
-pub struct Layer<'a, T> {
+pub struct Layer<'a, T: Slot> {
     slots: u32,
     first: Root,
     nodes: Nodes<'a, T>,
 }
 
-impl<'a, T> Model for Layer<'a, T> {
-    ghost use Rattle.sa_shared.specs.Forest.{Forest};
-    ghost use Rattle.sa_shared.specs.Tree.{IsTree};
+impl<'a, T: Slot> Model for Layer<'a, T> {
+    ghost use Rattle.sa_shared.specs.Forest.{Forest, Belongs};
 
     ghost Value = { Forest T };
 
     ghost view = { λ l. record { slots = l.slots; first = l.first; nodes = l.nodes } };
 
-    ghost invariant = { λ l. IsTree l.nodes l.slots l.first.node };
+    ghost invariant = { λ l. Belongs T.like (record { slots = l.slots; first = l.first; nodes = l.nodes }) l.first };
 }
 
 impl<'a, T: Slot> Layer<'a, T> {
@@ -45,6 +47,13 @@ impl<'a, T: Slot> Layer<'a, T> {
             first: base.first,
             nodes: Nodes::over(*base.nodes.allocator(), base.nodes.as_slice()),
         }
+    }
+
+    /// How many slots each list has.
+    pub fn slots(&self) -> u32
+        ensures { result ≡ self.now.slots }
+    {
+        self.slots
     }
 
     /// The value of a slot.
@@ -72,6 +81,63 @@ impl<'a, T: Slot> Layer<'a, T> {
     {
         let node = self.nodes.set(self.slots, r.node, slot, v)?;
         Ok(Root { node })
+    }
+
+    /// The root of a list that is built at once. A tree of n slots has 2n - 1 nodes, one of no slots has one.
+    pub fn put(&mut self, list: Vec<T>) -> Result<Root, OutOfMemory>
+        requires alike { EachSlot T.like (list_of self.old self.old.first) list.items }
+        ensures root { IfOk result (λ made. Belongs T.like self.new made) }
+        ensures list { IfOk result (λ made. list_of self.new made ≡ list.items) }
+        ensures older { Grows T.like self.old self.new }
+        ensures nodes { length self.new.nodes ≤ length self.old.nodes + (1 + 2 * (self.old.slots - 1)) }
+    {
+        Err(AllocError)
+    }
+
+    /// The root of the same list with the slots of a range changed, from the first number up to the second, which is
+    /// not among them. It adds a node for each place over a slot that changes, and no other.
+    pub fn change<C: Change<T>>(
+        &mut self,
+        r: Root,
+        from: u32,
+        to: u32,
+        by: &C,
+    ) -> Result<Root, OutOfMemory>
+        requires root { Belongs T.like self.old r }
+        requires fits { InRange from to (C.fits by.now) (list_of self.old r) }
+        ensures root { IfOk result (λ made. Belongs T.like self.new made) }
+        ensures list { IfOk result (λ made. list_of self.new made ≡ changed (in_range from to (C.changed_of by.now)) 0 (list_of self.old r)) }
+        ensures older { Grows T.like self.old self.new }
+        ensures nodes { length self.new.nodes ≤ length self.old.nodes + changes (in_range from to (C.changed_of by.now)) 0 (tree_of self.old r) }
+        ensures same { IfOk result (λ made. changes (in_range from to (C.changed_of by.now)) 0 (tree_of self.old r) ≡ 0 → made ≡ r) }
+    {
+        Err(AllocError)
+    }
+
+    /// What takes in the values of a range's slots in their order, from the first number up to the second, which is
+    /// not among them.
+    pub fn fold<A: Fold<T>>(&self, r: Root, from: u32, to: u32, start: A) -> A
+        requires root { Belongs T.like self.now r }
+        requires fits { InRange from to (A.fits start) (list_of self.now r) }
+        ensures { result ≡ folded A.with_of from start (take (to - from) (drop from (list_of self.now r))) }
+    {
+        start
+    }
+
+    /// The root of the slot-wise combination of two lists. Halves that both lists share are not entered, and it adds
+    /// a node for each place over a slot that changes, and no other.
+    pub fn combine<C: Combine<T>>(&mut self, a: Root, b: Root, by: &C) -> Result<Root, OutOfMemory>
+        requires first { Belongs T.like self.old a }
+        requires second { Belongs T.like self.old b }
+        requires fits { AtEachSlot (C.fits by.now) (list_of self.old a) (list_of self.old b) }
+        ensures root { IfOk result (λ made. Belongs T.like self.new made) }
+        ensures list { IfOk result (λ made. list_of self.new made ≡ combined (C.combined_of by.now) 0 (list_of self.old a) (list_of self.old b)) }
+        ensures older { Grows T.like self.old self.new }
+        ensures nodes { length self.new.nodes ≤ length self.old.nodes + combines (C.combined_of by.now) 0 (tree_of self.old a) (tree_of self.old b) }
+        ensures differences { length self.new.nodes ≤ length self.old.nodes + differences (tree_of self.old a) (tree_of self.old b) }
+        ensures same { IfOk result (λ made. combines (C.combined_of by.now) 0 (tree_of self.old a) (tree_of self.old b) ≡ 0 → made ≡ a) }
+    {
+        Err(AllocError)
     }
 
     /// The root of the slot-wise join of two lists. Each pair of nodes that it visits is a step, and halves that

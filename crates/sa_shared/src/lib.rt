@@ -14,11 +14,13 @@ mod slot;
 #[cfg(test)]
 mod tests;
 mod trees;
+mod walks;
 mod way;
 
 pub use frozen::Frozen;
 pub use layer::Layer;
 pub use nodes::Root;
 pub use slot::Slot;
+pub use walks::{Change, Combine, Fold};
 /// Want of memory, the one answer that no clause ties to anything.
 pub use std::alloc::AllocError as OutOfMemory;

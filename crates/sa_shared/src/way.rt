@@ -10,20 +10,20 @@ use smallvec::SmallVec;
 
 /// Which half a way takes at a node, with the other half's number.
 #[derive(Clone, Copy)]
-pub(crate) enum Turn {
+pub(crate) enum Side {
     Left(u32),
     Right(u32),
 }
 
-/// What fills inline places that no turn has taken.
-impl Default for Turn {
-    fn default() -> Turn {
-        Turn::Left(0)
+/// What fills inline places that no side has taken.
+impl Default for Side {
+    fn default() -> Side {
+        Side::Left(0)
     }
 }
 
-/// The turns from the root on. Trees of up to 2^20 slots have no longer ones.
-type Way = SmallVec<Turn, 20>;
+/// The sides that a way takes, from the root on. Trees of up to 2^20 slots have no longer ones.
+type Way = SmallVec<Side, 20>;
 
 impl<'a, T: Drop> Nodes<'a, T> {
     /// The same tree with another value in a slot: new nodes along the way to it, and the old ones elsewhere.
@@ -43,13 +43,13 @@ impl<'a, T: Drop> Nodes<'a, T> {
     {
         let mut way = self.way(slots, root, slot)?;
         let mut made = self.push(Node::Leaf(value))?;
-        'up: while let Some(turn) = way.pop() {
-            made = self.push(turn.over(made))?;
+        'up: while let Some(side) = way.pop() {
+            made = self.push(side.over(made))?;
         }
         Ok(made)
     }
 
-    /// The turns from a tree's root to a slot.
+    /// The sides that lead from a tree's root to a slot.
     fn way(&self, slots: u32, root: u32, slot: u32) -> Result<Way, OutOfMemory>
         requires tree { IsTree self.now slots root }
         requires slot { slot < slots }
@@ -65,11 +65,11 @@ impl<'a, T: Drop> Nodes<'a, T> {
             let behind = width / 2;
             let front = width - behind;
             if place < front {
-                way.push(Turn::Left(right))?;
+                way.push(Side::Left(right))?;
                 number = left;
                 width = front;
             } else {
-                way.push(Turn::Right(left))?;
+                way.push(Side::Right(left))?;
                 number = right;
                 width = behind;
                 place -= front;
@@ -79,14 +79,14 @@ impl<'a, T: Drop> Nodes<'a, T> {
     }
 }
 
-impl Turn {
+impl Side {
     /// The node that has this in place of the half that the way took.
     fn over<T>(self, made: u32) -> Node<T>
         ensures { result ≡ over self made }
     {
         match self {
-            Turn::Left(right) => Node::Fork(made, right),
-            Turn::Right(left) => Node::Fork(left, made),
+            Side::Left(right) => Node::Fork(made, right),
+            Side::Right(left) => Node::Fork(left, made),
         }
     }
 }

@@ -11,12 +11,18 @@ use Rattle.sa_shared.proofs.layer.Layer.compact.Goals as goal
 
 pub invariant_of-result : goal.invariant_of-result
 invariant_of-result g c =
+    let like = g.T.Slot.like in
+    let laws = g.met.T.Slot.laws in
+    let s = c.self.inside in
     let made = c.in_ok-nodes.made.items in
-    let long = length_all_zip _ c.args.roots.now made c.in_ok-nodes.ensures.lists in
     let first = c.index-first.result.now in
-    let old = AllZip-get_or (IsSameList {T = g.row.T.Denot} c.self.inside.nodes c.in_ok-nodes.nodes.items c.self.inside.slots) c.args.roots.now made 0 first first
-    c.in_ok-nodes.ensures.lists c.requires.some in
-    subst (λ (r : Root). IsTree {T = g.row.T.Denot} c.in_ok-nodes.nodes.items c.self.inside.slots r.node) (sym c.index-first.ensures) old.tree
+    let long = length_all_zip _ c.args.roots.now made c.in_ok-nodes.ensures.lists in
+    let inside : Forest g.row.T.Denot = record { slots = s.slots; first = s.first; nodes = s.nodes } in
+    let new : Forest g.row.T.Denot = record { slots = s.slots; first = first; nodes = c.in_ok-nodes.nodes.items } in
+    let roots = subst (λ f. All (Belongs like f) c.args.roots.now) (sym c.self.view_is) c.requires.roots in
+    let all = copied_belongs like laws.like_back laws.like_on inside c.in_ok-nodes.nodes.items first c.args.roots.now made
+    roots c.in_ok-nodes.ensures.lists c.requires.some c.index-first.ensures in
+    subst (λ r. Belongs like new r) (sym c.index-first.ensures) (all 0 first (omega (arith, long, c.requires.some)))
 
 pub returns-clause-lists : goal.returns-clause-lists
 returns-clause-lists g c =

@@ -11,7 +11,9 @@ returns-then-a-b-clause-join g t c =
     let ta = tree_at c.args.self.now c.args.a in
     let tb = tree_at c.args.self.now c.args.b in
     elim c.then-a-b.either [
-      | inl e ↦ sym (slotwise_self f g.met.T.Slot.laws.join_self (values ta)) ∙ ap (λ n. slotwise f (values ta) (values (tree_at c.args.self.now n))) e
+      | inl e ↦
+          let valid = subst (λ n. EachSlot g.T.Slot.like (values ta) (values (tree_at c.args.self.now n))) (sym e) c.requires.alike in
+          sym (slotwise_self g.T.Slot.like f g.met.T.Slot.laws.join_self (values ta) valid) ∙ ap (λ n. slotwise f (values ta) (values (tree_at c.args.self.now n))) e
       | inr w ↦
           let none : values ta ≡ [] = no_slots ta (subst (λ m. IsBalanced m ta) w.1 c.requires.first.balanced) in
           none ∙ sym (ap (λ l. slotwise f l (values tb)) none)

@@ -11,7 +11,10 @@ returns-then-a-b g t c =
     let ta = tree_at c.args.self.now c.args.a in
     let tb = tree_at c.args.self.now c.args.b in
     let each : EachSlot below (values ta) (values tb) = elim c.then-a-b.either [
-      | inl e ↦ subst (λ n. EachSlot below (values ta) (values (tree_at c.args.self.now n))) e (each_self below g.met.T.Slot.laws.below_self (values ta))
+      | inl e ↦
+          let valid = subst (λ n. EachSlot g.T.Slot.like (values ta) (values (tree_at c.args.self.now n))) (sym e) c.requires.alike in
+          subst (λ n. EachSlot below (values ta) (values (tree_at c.args.self.now n))) e
+          (each_self g.T.Slot.like below g.met.T.Slot.laws.below_self (values ta) valid)
       | inr w ↦ subst (λ l. EachSlot below l (values tb)) (sym (no_slots ta (subst (λ m. IsBalanced m ta) w.1 c.requires.first.balanced)))
           (subst (EachSlot below []) (sym (no_slots tb (subst (λ m. IsBalanced m tb) w.1 c.requires.second.balanced))) tt)
     ] in

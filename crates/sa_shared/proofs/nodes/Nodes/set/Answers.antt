@@ -11,10 +11,10 @@ pub up-init : goal.up-init
 up-init g c =
     let old = c.args.self.now in
     let whole = tree_at old c.args.root in
-    let turns = reverse c.in_ok-way.way.items in
+    let sides = reverse c.in_ok-way.way.items in
     let at = c.in_ok-way.ensures.leads in
     let part = tree_at old at.0 in
-    let one = part_balanced old c.args.slots whole c.args.slot c.requires.tree.balanced turns 1 0 part at.1 in
+    let one = part_balanced old c.args.slots whole c.args.slot c.requires.tree.balanced sides 1 0 part at.1 in
     let made = leafed old c.push.new.self c.args.value c.in_ok-made.made c.in_ok-made.ensures.ok.0 c.in_ok-made.ensures.ok.1 in
     record {
       older = c.push.ensures.older;
@@ -26,17 +26,17 @@ pub up-preserved : goal.up-preserved
 up-preserved g c =
     let old = c.args.self.now in
     let whole = tree_at old c.args.root in
-    let turn = c.in-Some.turn in
+    let side = c.in-Some.side in
     let left = c.pop.new.self.items in
-    let turns : reverse c.up.way.items ≡ turn ∷ reverse left = ap reverse c.in-Some.ensures.items ∙ reverse-append left (turn ∷ []) in
+    let sides : reverse c.up.way.items ≡ side ∷ reverse left = ap reverse c.in-Some.ensures.items ∙ reverse-append left (side ∷ []) in
     let i = c.up.invariant in
     let p = i.part in
-    let leads = subst (λ ts. IsWay old c.args.slots whole c.args.slot ts p.0 p.1 p.2) turns p.3 in
+    let leads = subst (λ ts. IsWay old c.args.slots whole c.args.slot ts p.0 p.1 p.2) sides p.3 in
     let ok = c.in_ok-made-2.ensures.ok in
-    let grown : c.push-in-Some.new.self ≡ c.up.self ++ over turn c.up.made ∷ [] = ok.1 ∙ ap (λ x. c.up.self ++ x ∷ []) c.over.ensures in
+    let grown : c.push-in-Some.new.self ≡ c.up.self ++ over side c.up.made ∷ [] = ok.1 ∙ ap (λ x. c.up.self ++ x ∷ []) c.over.ensures in
     record {
       older = extends_on _ _ _ i.older c.push-in-Some.ensures.older;
-      few = omega (arith, i.few, ap length grown, length-append c.up.self (over turn c.up.made ∷ []), ap length c.in-Some.ensures.items, length-append left (turn ∷ []));
-      part = climbed old c.args.slots whole c.args.slot c.requires.tree.balanced turn (reverse left) p.0 p.2 p.1 c.up.self c.push-in-Some.new.self c.up.made
+      few = omega (arith, i.few, ap length grown, length-append c.up.self (over side c.up.made ∷ []), ap length c.in-Some.ensures.items, length-append left (side ∷ []));
+      part = climbed old c.args.slots whole c.args.slot c.requires.tree.balanced side (reverse left) p.0 p.2 p.1 c.up.self c.push-in-Some.new.self c.up.made
           c.in_ok-made-2.made c.args.value leads i.older p.4 p.5 ok.0 grown;
     }
