@@ -119,8 +119,8 @@ with_clock e of = at_clock (clock_of of) (cells_of e)
 
 -- ---- widening (Cousot and Cousot 1977), by this project's own schedule of passes
 -- a clock that rises goes to the last one
-abbrev pub widened_clock : Limits → Span → Span → Span
-widened_clock l old new = record { lo = int_min old.lo new.lo; hi = risen (pos l.max_clock) old.hi new.hi }
+abbrev pub widened_clock : Span → Span → Span → Span
+widened_clock whole old new = record { lo = int_min old.lo new.lo; hi = risen whole.hi old.hi new.hi }
 
 abbrev pub widened_spans : List ℤ → ℕ → List Span → List Span → List Span → List Span
 widened_spans thresholds pass [] olds news = []
@@ -133,7 +133,7 @@ widened_spans thresholds pass (top ∷ tops) (old ∷ olds) (new ∷ news) =
 abbrev pub spread : Limits → List ℤ → ℕ → Flat → Flat → Flat
 spread l thresholds pass dead b = b
 spread l thresholds pass (live t xs) dead = live t xs
-spread l thresholds pass (live t xs) (live u ys) = live (widened_clock l t u) (widened_spans thresholds pass l.tops xs ys)
+spread l thresholds pass (live t xs) (live u ys) = live (widened_clock (whole_clock l) t u) (widened_spans thresholds pass l.tops xs ys)
 
 -- what pass 1 to 31 makes of them
 unfoldable pub widened : Limits → List ℤ → ℕ → Flat → Flat → Flat

@@ -2,3 +2,5 @@ pub mod Flat
 pub mod Shop
 pub mod SlotLaws
 pub mod Slots
+pub mod WalkLaws
+pub mod Walks

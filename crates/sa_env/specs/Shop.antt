@@ -1,7 +1,8 @@
 -- What contracts see of a shop, and what its environments stand for.
-use Rattle.std.specs.Prelude.{◌≡◌, ◌≤◌, ◌^◌, ◌≤ℤ◌, ℕ, pos, negsuc, ◌-◌, Bool, true, false, List, length, map, ⊤}
+use Rattle.std.specs.Prelude.{◌≡◌, ◌≤◌, ◌^◌, ◌≤ℤ◌, ℕ, pos, negsuc, ◌-◌, Bool, true, false, List, [], ◌∷◌, length, map, ⊤}
 use Rattle.std.specs.List.{All}
 use Rattle.sa_interval.specs.Span.{Span}
+use Rattle.sa_shared.specs.declared.nodes.Root.{Root}
 use Rattle.sa_shared.specs.Forest.{Forest, list_of}
 use Rattle.sa_shared.specs.Forest as shared
 use Rattle.sa_shared.specs.Slots.{EachSlot}
@@ -39,6 +40,19 @@ flat_of s (Live clock root) = live clock (spans_of (list_of s.lists root))
 abbrev pub is_live : Env → Bool
 is_live Dead = false
 is_live (Live clock root) = true
+
+-- the roots of the live ones
+unfoldable pub roots_of : List Env → List Root
+roots_of [] = []
+roots_of (Dead ∷ es) = roots_of es
+roots_of (Live clock root ∷ es) = root ∷ roots_of es
+
+-- the same environments with other roots in place of theirs, one for each live one
+unfoldable pub with_roots : List Env → List Root → List Env
+with_roots [] rs = []
+with_roots (Dead ∷ es) rs = Dead ∷ with_roots es rs
+with_roots (Live clock root ∷ es) [] = []
+with_roots (Live clock root ∷ es) (r ∷ rs) = Live clock r ∷ with_roots es rs
 
 -- its root names one of the shop's lists
 unfoldable pub IsNamed : Stock → Env → Type 0

@@ -3,6 +3,7 @@
 ghost use Rattle.std.specs.Prelude.{◌≡◌, ◌≤ℤ◌, ◌^◌, ◌≤◌};
 ghost use Rattle.sa_interval.specs.Span.{IsPart};
 ghost use Rattle.sa_env.specs.Slots.{fallen, risen, spread_to};
+ghost use Rattle.sa_env.specs.Flat.{widened_clock};
 
 use sa_interval::Interval;
 
@@ -32,4 +33,13 @@ pub(crate) fn spread_to(top: Interval, old: Interval, new: Interval) -> Interval
     let lo = fallen(top.lo(), old.lo(), new.lo());
     let hi = risen(top.hi(), old.hi(), new.hi());
     Interval::new(lo, hi)
+}
+
+/// A clock that rises goes to the last one.
+pub(crate) fn widened_clock(whole: Interval, old: Interval, new: Interval) -> Interval
+    requires old { IsPart old whole }
+    ensures { result ≡ widened_clock whole old new }
+{
+    let hi = risen(whole.hi(), old.hi(), new.hi());
+    Interval::new(old.lo().min(new.lo()), hi)
 }

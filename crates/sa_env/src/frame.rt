@@ -1,6 +1,6 @@
 //! What the environments of one analysis have in common.
 
-ghost use Rattle.std.specs.Prelude.{◌≡◌, ◌≤◌, ◌<◌, ◌^◌, IfOk, length, slice_get, Some};
+ghost use Rattle.std.specs.Prelude.{◌≡◌, ◌≤◌, ◌<◌, ◌^◌, IfOk, length, slice_index_or};
 ghost use Rattle.std.specs.List.{All};
 ghost use Rattle.sa_shared.specs.Forest.{list_of};
 ghost use Rattle.sa_env.specs.Flat.{IsFair, top_of, whole_clock};
@@ -70,7 +70,7 @@ impl Frame {
     /// The top of a slot.
     pub(crate) fn top(&self, slot: u32) -> &SlotValue
         requires { slot < length self.now.tops }
-        ensures { slice_get self.now.tops slot ≡ Some (span_of result.now) }
+        ensures { span_of result.now ≡ slice_index_or self.now.tops slot (span_of result.now) }
     {
         &self.tops[slot as usize]
     }
@@ -80,13 +80,6 @@ impl Frame {
         ensures { result ≡ whole_clock self.now }
     {
         Interval::new(0, i128::from(self.max_clock))
-    }
-
-    /// The last clock.
-    pub(crate) fn max_clock(&self) -> u64
-        ensures { result ≡ self.now.max_clock }
-    {
-        self.max_clock
     }
 
     pub(crate) fn allocator(&self) -> Global {

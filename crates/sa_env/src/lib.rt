@@ -3,8 +3,10 @@
 
 mod env;
 mod frame;
+mod bounds;
 mod shop;
 mod slot;
+mod walks;
 
 pub use env::Env;
 pub use frame::Frame;

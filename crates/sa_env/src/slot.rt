@@ -7,6 +7,7 @@ ghost use Rattle.sa_env.specs.Slots.{span_of, Alike, slot_join, SlotBelow, slot_
 ghost use Rattle.sa_env.specs.SlotLaws.{slot_laws};
 
 use crate::OutOfMemory;
+use crate::bounds::spread_to;
 use sa_interval::{Interval, Thresholds};
 use sa_shared::Slot;
 use std::alloc::Global;

@@ -1,15 +1,17 @@
 //! What is done with slots on a walk over them.
 
-ghost use Rattle.std.specs.Prelude.{◌≡◌, ◌<◌, slice_index_or, ⊤};
-ghost use Rattle.sa_env.specs.Slots.{span_of, slot_weakened};
-ghost use Rattle.sa_env.specs.Walks.{slot_spread_at, IsUnderTop, hull_with, weak_laws, spread_laws, hull_laws};
+ghost use Rattle.std.specs.Prelude.{◌≡◌, ◌<◌, ⊤};
+ghost use Rattle.sa_env.specs.Slots.{slot_weakened};
+ghost use Rattle.sa_env.specs.Walks.{AreUnder, spread_at};
+ghost use Rattle.sa_env.specs.WalkLaws.{cells_alike, spread_laws};
 
 use crate::{Frame, OutOfMemory, SlotValue};
 use sa_interval::{Interval, Thresholds};
-use sa_shared::{Change, Combine, Fold};
+use sa_shared::{Change, Combine};
 use std::alloc::Global;
 
-/// A weak assignment: each slot takes the join with an interval.
+/// A weak assignment: a slot takes the join with an interval.
+#[derive(Drop)]
 pub(crate) struct Weakly {
     pub(crate) span: Interval,
 }
@@ -19,7 +21,7 @@ impl Change<SlotValue> for Weakly {
 
     ghost changed_of = { λ c k x. slot_weakened c.span x };
 
-    ghost laws = { weak_laws };
+    ghost laws = { λ c k x y _ _ _. cells_alike x y };
 
     fn changed(
         &self,
@@ -28,5 +30,31 @@ impl Change<SlotValue> for Weakly {
         old: &SlotValue,
     ) -> Result<Option<SlotValue>, OutOfMemory> {
         Ok(old.weakened(self.span))
+    }
+}
+
+/// A step of widening, from the first list towards the second.
+#[derive(Drop)]
+pub(crate) struct Spread<'a> {
+    pub(crate) frame: &'a Frame,
+    pub(crate) thresholds: &'a Thresholds,
+    pub(crate) pass: u32,
+}
+
+impl<'a> Combine<SlotValue> for Spread<'a> {
+    ghost fits = { λ c. AreUnder c.frame.now.tops };
+
+    ghost combined_of = { λ c. spread_at c.frame.now.tops c.thresholds.now c.pass };
+
+    ghost laws = { λ c. spread_laws c.frame.now.tops c.thresholds.now c.pass };
+
+    fn combined(
+        &self,
+        _alloc: Global,
+        slot: u32,
+        a: &SlotValue,
+        b: &SlotValue,
+    ) -> Result<Option<SlotValue>, OutOfMemory> {
+        Ok(a.spread(b, self.frame.top(slot), self.thresholds, self.pass))
     }
 }
