@@ -26,6 +26,7 @@ pub record Stock : Type 0 where
 -- a shop may stand over these lists: they have one slot for each cell, with what may stand there
 pub record IsBase (l : Limits) (f : Forest SlotValue) : Type 0 where
   pub slots : f.slots ≡ length l.tops
+  pub first : shared.Belongs Alike f f.first
   pub alike : EachSlot Alike (map Cell l.tops) (list_of f f.first)
 
 -- the shop over a base, before anything is made in it

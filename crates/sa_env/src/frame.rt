@@ -56,8 +56,7 @@ impl Frame {
 
     /// Each slot's top.
     pub(crate) fn tops(&self) -> Result<Vec<SlotValue>, OutOfMemory>
-        ensures tops { IfOk result (λ tops. spans_of tops.items ≡ self.now.tops) }
-        ensures fair { IsFair self.now (top_of self.now) }
+        ensures { IfOk result (λ tops. spans_of tops.items ≡ self.now.tops) }
     {
         let alloc = self.allocator();
         let mut tops = Vec::with_capacity(alloc, self.tops.len())?;
@@ -77,7 +76,8 @@ impl Frame {
 
     /// From 0 to the last clock.
     pub(crate) fn clock(&self) -> Interval
-        ensures { result ≡ whole_clock self.now }
+        ensures value { result ≡ whole_clock self.now }
+        ensures fair { IsFair self.now (top_of self.now) }
     {
         Interval::new(0, i128::from(self.max_clock))
     }
