@@ -114,6 +114,16 @@ impl<'a, T: Slot> Layer<'a, T> {
         Err(AllocError)
     }
 
+    /// What takes in the values of a range's slots in their order, from the first number up to the second, which is
+    /// not among them.
+    pub fn fold<A: Fold<T>>(&self, r: Root, from: u32, to: u32, start: A) -> A
+        requires root { Belongs T.like self.now r }
+        requires fits { InRange from to (A.fits start) (list_of self.now r) }
+        ensures { result ≡ folded A.with_of from start (take (to - from) (drop from (list_of self.now r))) }
+    {
+        start
+    }
+
     /// The root of the slot-wise combination of two lists. Halves that both lists share are not entered, and it adds
     /// a node for each place over a slot that changes, and no other.
     pub fn combine<C: Combine<T>>(&mut self, a: Root, b: Root, by: &C) -> Result<Root, OutOfMemory>
