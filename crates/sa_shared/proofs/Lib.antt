@@ -4,4 +4,5 @@ pub mod Forests
 pub mod Lists
 pub mod Sample
 pub mod Unfolding
+pub mod Walking
 pub mod Ways

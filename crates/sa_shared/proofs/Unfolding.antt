@@ -156,17 +156,14 @@ module _ {T : Type 0} where
     trees = extended nodes (x ∷ []);
   }
 
-  -- whether a push was answered Ok or not
-  pub extends_either : {E : Type 0} (r : Result ℕ E) (base old new : List (Node T)) (x : Node T) (m : ℕ) → IfOk r (λ n. (n ≡ m) × (new ≡ old ++ x ∷ []))
-      → OnErr r (new ≡ old) → Extends (base ++ old) (base ++ new)
-  extends_either (Ok n) base old new x m h k =
-      subst (Extends (base ++ old)) (append_assoc base old (x ∷ []) ∙ ap (λ l. base ++ l) (sym h.1)) (extends_push (base ++ old) x)
-  extends_either (Err e) base old new x m h k = subst (Extends (base ++ old)) (ap (λ l. base ++ l) (sym k)) (extends_self (base ++ old))
+  -- a node added to those that stand behind a base
+  pub grown : (base old new : List (Node T)) (x : Node T) → new ≡ old ++ x ∷ [] → base ++ new ≡ (base ++ old) ++ x ∷ []
+  grown base old new x is = ap (λ l. base ++ l) is ∙ sym (append_assoc base old (x ∷ []))
 
   -- as a vector's push says it
-  pub extends_if : (b : Bool) (old new : List (Node T)) (x : Node T) → new ≡ (if b then old ++ x ∷ [] else old) → Extends old new
-  extends_if true old new x is = subst (Extends old) (sym is) (extends_push old x)
-  extends_if false old new x is = subst (Extends old) (sym is) (extends_self old)
+  pub extends_if : (b : Bool) (base old new : List (Node T)) (x : Node T) → new ≡ (if b then old ++ x ∷ [] else old) → Extends (base ++ old) (base ++ new)
+  extends_if true base old new x is = subst (Extends (base ++ old)) (sym (grown base old new x is)) (extends_push (base ++ old) x)
+  extends_if false base old new x is = subst (λ l. Extends (base ++ old) (base ++ l)) (sym is) (extends_self (base ++ old))
 
   pub extends_on : (a b c : List (Node T)) → Extends a b → Extends b c → Extends a c
   extends_on a b c h k = record {

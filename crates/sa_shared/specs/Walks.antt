@@ -1,11 +1,15 @@
 -- What walks over the slots of lists leave, by functions of a slot's number and value.
-use Rattle.std.specs.Prelude.{◌≡◌, ℕ, zero, suc, ◌+◌, ◌-◌, ◌<◌, ◌≤◌, ◌==◌, ◌&&◌, nat_le, nat_lt, if◌then◌else◌, List, [], ◌∷◌, length, take, drop, Option, None, Some, is_some, unwrap_or, slice_get}
+use Rattle.std.specs.Prelude.{◌≡◌, ◌⊎◌, ℕ, zero, suc, ◌+◌, ◌-◌, ◌<◌, ◌≤◌, ◌==◌, ◌&&◌, nat_le, nat_lt, if◌then◌else◌, List, [], ◌∷◌, length, take, drop, Option, None, Some, is_some, unwrap_or, slice_get}
 use Rattle.sa_shared.specs.Tree.{Tree, empty, leaf, fork, values}
 
 -- so many places, and the one above them if there are any
 unfoldable pub with_above : ℕ → ℕ
 with_above zero = 0
 with_above (suc n) = suc (suc n)
+
+-- nothing changes below a place and it keeps its node number, or it has a new one, behind so many older ones
+abbrev pub IsKept : ℕ → ℕ → ℕ → ℕ → Type 0
+IsKept count old nodes new = ((count ≡ 0) × (new ≡ old)) ⊎ ((0 < count) × (nodes ≤ new))
 
 module _ {T : Type 0} where
   -- the function at the slots from the first number up to the second, which is not among them, and nothing elsewhere
@@ -40,6 +44,25 @@ module _ {T : Type 0} where
       if i == j then 0 else with_above (combines f k s u + combines f (k + length (values s)) t v)
   combines f k (leaf i x) (leaf j y) = if i == j then 0 else (if is_some (f k x y) then 1 else 0)
   combines f k s t = 0
+
+  -- a step at the slots from the first number up to the second, which is not among them, and none elsewhere
+  unfoldable pub step_in_range : {A : Type 0} → ℕ → ℕ → (A → ℕ → T → A) → A → ℕ → T → A
+  step_in_range from to step a k x = if nat_le from k && nat_lt k to then step a k x else a
+
+  -- it holds of each value with its slot's number; the first slot is number k
+  abbrev pub AtEach : (ℕ → T → Type 0) → ℕ → List T → Type 0
+  AtEach P k [] = Unit {0}
+  AtEach P k (x ∷ xs) = P k x × AtEach P (suc k) xs
+
+  -- the same of two lists' values
+  abbrev pub AtBoth : (ℕ → T → T → Type 0) → ℕ → List T → List T → Type 0
+  AtBoth P k [] ys = Unit {0}
+  AtBoth P k (x ∷ xs) [] = Unit {0}
+  AtBoth P k (x ∷ xs) (y ∷ ys) = P k x y × AtBoth P (suc k) xs ys
+
+  -- it holds at the slots of the range
+  abbrev pub Within : ℕ → ℕ → (ℕ → T → Type 0) → ℕ → T → Type 0
+  Within from to P k x = from ≤ k → k < to → P k x
 
   -- it holds of each slot's number and value, in a range of slots
   abbrev pub InRange : ℕ → ℕ → (ℕ → T → Type 0) → List T → Type 0

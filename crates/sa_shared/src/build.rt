@@ -1,6 +1,6 @@
 //! Trees built from lists, and copies of trees.
 
-ghost use Rattle.std.specs.Prelude.{◌≡◌, ℕ, ◌<◌, ◌≤◌, [], ◌∷◌, ◌++◌, length, slice_set, replicate, None, Some, IfOk, OnOk};
+ghost use Rattle.std.specs.Prelude.{◌≡◌, ℕ, ◌+◌, ◌-◌, ◌*◌, ◌<◌, ◌≤◌, [], ◌∷◌, ◌++◌, length, slice_set, replicate, None, Some, IfOk, OnOk};
 ghost use Rattle.std.specs.List.{All, AllZip};
 ghost use Rattle.sa_shared.specs.Copies.{AreCopies, AreReached, AreWithin, IsSameList};
 ghost use Rattle.sa_shared.specs.Forest.{reached};
@@ -11,30 +11,32 @@ use crate::nodes::{Node, Nodes, Root, push_node};
 use crate::slot::Slot;
 use std::alloc::{AllocError, Global};
 
-/// A tree of the last slots of a list, which it takes from the list's end.
+/// Adds the tree of the last slots of a list, which it takes from the list's end, to nodes that stand behind a base.
 pub(crate) fn build<T: Drop>(
     list: &mut Vec<T>,
     slots: u32,
+    base: &[Node<T>],
     nodes: &mut Vec<Node<T>>,
 ) -> Result<u32, OutOfMemory>
     requires { slots ≤ length list.old.items }
-    ensures tree { IfOk result (λ n. IsTree nodes.new.items slots n) }
-    ensures list { IfOk result (λ n. list.old.items ≡ list.new.items ++ values (tree_at nodes.new.items n)) }
-    ensures older { Extends nodes.old.items nodes.new.items }
+    ensures tree { IfOk result (λ n. IsTree (base.now ++ nodes.new.items) slots n) }
+    ensures list { IfOk result (λ n. list.old.items ≡ list.new.items ++ values (tree_at (base.now ++ nodes.new.items) n)) }
+    ensures older { Extends (base.now ++ nodes.old.items) (base.now ++ nodes.new.items) }
+    ensures nodes { length nodes.new.items ≤ length nodes.old.items + (1 + 2 * (slots - 1)) }
 {
     if slots == 0 {
-        return push_node(0, nodes, Node::Empty);
+        return push_node(base, nodes, Node::Empty);
     }
     if slots == 1 {
         return match list.pop() {
-            Some(value) => push_node(0, nodes, Node::Leaf(value)),
+            Some(value) => push_node(base, nodes, Node::Leaf(value)),
             None => unreachable!(),
         };
     }
     let behind = slots / 2;
-    let right = build(list, behind, nodes)?;
-    let left = build(list, slots - behind, nodes)?;
-    push_node(0, nodes, Node::Fork(left, right))
+    let right = build(list, behind, base, nodes)?;
+    let left = build(list, slots - behind, base, nodes)?;
+    push_node(base, nodes, Node::Fork(left, right))
 }
 
 impl<'a, T: Slot> Nodes<'a, T> {
@@ -134,7 +136,8 @@ fn keep<T: Drop>(
     ensures place { IfOk result (λ n. places.new ≡ slice_set places.old number (Some n)) }
     ensures older { Extends nodes.old.items nodes.new.items }
 {
-    let made = push_node(0, nodes, node)?;
+    let base = [];
+    let made = push_node(&base, nodes, node)?;
     places[number as usize] = Some(made);
     Ok(made)
 }

@@ -46,7 +46,8 @@ impl<T: Slot> Frozen<T> {
         };
         let mut list = list;
         let mut nodes = Vec::with_capacity(*list.allocator(), list.len().saturating_mul(2))?;
-        let node = build(&mut list, slots, &mut nodes)?;
+        let base = [];
+        let node = build(&mut list, slots, &base, &mut nodes)?;
         let first = Root { node };
         Ok((
             Frozen {

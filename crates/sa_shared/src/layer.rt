@@ -11,6 +11,7 @@ use crate::OutOfMemory;
 use crate::frozen::Frozen;
 use crate::nodes::{Nodes, Root};
 use crate::slot::Slot;
+use crate::range::Stretch;
 use crate::walks::{Change, Combine, Fold};
 use sa_steps::Steps;
 use std::alloc::AllocError;
@@ -91,7 +92,9 @@ impl<'a, T: Slot> Layer<'a, T> {
         ensures older { Grows T.like self.old self.new }
         ensures nodes { length self.new.nodes ≤ length self.old.nodes + (1 + 2 * (self.old.slots - 1)) }
     {
-        Err(AllocError)
+        let mut list = list;
+        let node = self.nodes.build(&mut list, self.slots)?;
+        Ok(Root { node })
     }
 
     /// The root of the same list with the slots of a range changed, from the first number up to the second, which is
@@ -121,7 +124,11 @@ impl<'a, T: Slot> Layer<'a, T> {
         requires fits { InRange from to (A.fits start) (list_of self.now r) }
         ensures { result ≡ folded A.with_of from start (take (to - from) (drop from (list_of self.now r))) }
     {
-        start
+        let over = Stretch {
+            from: 0,
+            to: self.slots,
+        };
+        self.nodes.fold(r.node, over, Stretch { from, to }, start)
     }
 
     /// The root of the slot-wise combination of two lists. Halves that both lists share are not entered, and it adds

@@ -10,6 +10,7 @@ mod build;
 mod frozen;
 mod layer;
 mod nodes;
+mod range;
 mod slot;
 #[cfg(test)]
 mod tests;

@@ -1,9 +1,10 @@
 //! Nodes in one list, those of a base first and then those that were added.
 
-ghost use Rattle.std.specs.Prelude.{◌≡◌, ℕ, ◌+◌, ◌-◌, ◌/◌, ◌<◌, ◌≤◌, ◌++◌, [], ◌∷◌, length, slice_get, Some, IfOk, IfSome, OnErr};
-ghost use Rattle.sa_shared.specs.Tree.{leaf, fork, IsBalanced, IsTree, tree_at, Extends};
+ghost use Rattle.std.specs.Prelude.{◌≡◌, ℕ, ◌+◌, ◌-◌, ◌*◌, ◌/◌, ◌<◌, ◌≤◌, ◌++◌, [], ◌∷◌, length, slice_get, Some, IfOk, IfSome, OnErr};
+ghost use Rattle.sa_shared.specs.Tree.{leaf, fork, values, IsBalanced, IsTree, tree_at, Extends};
 
 use crate::OutOfMemory;
+use crate::build::build;
 use std::alloc::{AllocError, Global};
 use std::marker::Model;
 
@@ -108,22 +109,33 @@ impl<'a, T: Drop> Nodes<'a, T> {
         ensures err { OnErr result (self.new ≡ self.old) }
         ensures older { Extends self.old self.new }
     {
-        push_node(self.base.len(), &mut self.added, node)
+        push_node(self.base, &mut self.added, node)
+    }
+
+    /// Adds the tree of the last slots of a list, which it takes from the list's end.
+    pub(crate) fn build(&mut self, list: &mut Vec<T>, slots: u32) -> Result<u32, OutOfMemory>
+        requires { slots ≤ length list.old.items }
+        ensures tree { IfOk result (λ n. IsTree self.new slots n) }
+        ensures list { IfOk result (λ n. list.old.items ≡ list.new.items ++ values (tree_at self.new n)) }
+        ensures older { Extends self.old self.new }
+        ensures nodes { length self.new ≤ length self.old + (1 + 2 * (slots - 1)) }
+    {
+        build(list, slots, self.base, &mut self.added)
     }
 }
 
-/// Adds a node where so many stand before these, and gives its number among all. There is no room for more than
-/// 32 bits can number.
+/// Adds a node to those that stand behind a base, and gives its number among all. There is no room for more than 32
+/// bits can number.
 pub(crate) fn push_node<T: Drop>(
-    before: usize,
+    base: &[Node<T>],
     nodes: &mut Vec<Node<T>>,
     node: Node<T>,
 ) -> Result<u32, OutOfMemory>
-    ensures ok { IfOk result (λ n. (n ≡ before + length nodes.old.items) × (nodes.new.items ≡ nodes.old.items ++ node ∷ [])) }
+    ensures ok { IfOk result (λ n. (n ≡ length (base.now ++ nodes.old.items)) × (base.now ++ nodes.new.items ≡ (base.now ++ nodes.old.items) ++ node ∷ [])) }
     ensures err { OnErr result (nodes.new.items ≡ nodes.old.items) }
-    ensures older { Extends nodes.old.items nodes.new.items }
+    ensures older { Extends (base.now ++ nodes.old.items) (base.now ++ nodes.new.items) }
 {
-    let Ok(number) = u32::try_from(before.saturating_add(nodes.len())) else {
+    let Ok(number) = u32::try_from(base.len().saturating_add(nodes.len())) else {
         return Err(AllocError);
     };
     nodes.push(node)?;
