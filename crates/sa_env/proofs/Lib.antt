@@ -1,1 +1,3 @@
 pub mod Fairness
+pub mod Lists
+pub mod Shops

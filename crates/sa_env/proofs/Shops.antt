@@ -1,0 +1,98 @@
+-- Shops: what they stand over, and that what is added keeps what stood before.
+use Rattle.std.proofs.Common.{◌≡◌, ℕ, ◌<◌, List, [], ◌∷◌, length, map, refl, sym, ap, ◌∙◌, subst, arith, length-map}
+use Rattle.std.proofs.lemmas.List.Elements.{length_all_zip}
+use Rattle.sa_interval.specs.Span.{Span}
+use Rattle.sa_shared.specs.declared.nodes.Root.{Root}
+use Rattle.sa_shared.specs.Forest.{Forest, list_of, Grows}
+use Rattle.sa_shared.specs.Forest as shared
+use Rattle.sa_shared.specs.Slots.{EachSlot}
+use Rattle.sa_shared.specs.Tree.{Tree, values}
+use Rattle.sa_env.specs.declared.slot.SlotValue.{SlotValue}
+use Rattle.sa_env.specs.declared.slot.SlotValue.TheVariants.{Cell}
+use Rattle.sa_env.specs.declared.env.Env.{Env}
+use Rattle.sa_env.specs.declared.env.Env.TheVariants.{Dead, Live}
+use Rattle.sa_env.specs.Slots.{span_of, spans_of, Alike}
+use Rattle.sa_env.specs.Flat.{Flat, live, Limits, IsFair}
+use Rattle.sa_env.specs.Shop.{Stock, IsBase, shop_over, flat_of, IsNamed, Belongs, Keeps}
+use Rattle.sa_env.proofs.Lists.{each_alike, length_spans}
+
+-- ---- what a shop stands over
+pub is_base : (l : Limits) (f : Forest SlotValue) → f.slots ≡ length l.tops → shared.Belongs Alike f f.first → length (list_of f f.first) ≡ length l.tops → IsBase l f
+is_base l f s b n = record {
+  slots = s;
+  first = b;
+  alike = each_alike (map Cell l.tops) (list_of f f.first) (length-map l.tops Cell ∙ sym n);
+}
+
+-- of a list that is the first one
+pub is_base_of : (l : Limits) (f : Forest SlotValue) (items : List SlotValue) → f.slots ≡ length items → shared.Belongs Alike f f.first → list_of f f.first ≡ items → spans_of items ≡ l.tops → IsBase l f
+is_base_of l f items s b e t =
+    let n : length items ≡ length l.tops = sym (length_spans items) ∙ ap length t in
+    is_base l f (s ∙ n) b (ap length e ∙ n)
+
+pub named_length : (l : Limits) (f : Forest SlotValue) (r : Root) → IsBase l f → shared.Belongs Alike f r → length (list_of f r) ≡ length l.tops
+named_length l f r h b =
+    sym (length_all_zip Alike (list_of f f.first) (list_of f r) b.alike)
+    ∙ sym (length_all_zip Alike (map Cell l.tops) (list_of f f.first) h.alike) ∙ length-map l.tops Cell
+
+-- lists of as many slots may be put there
+pub may_be_put : (l : Limits) (f : Forest SlotValue) (items : List SlotValue) → IsBase l f → length (spans_of items) ≡ length l.tops → EachSlot Alike (list_of f f.first) items
+may_be_put l f items h n =
+    each_alike (list_of f f.first) items (named_length l f f.first h h.first ∙ sym n ∙ length_spans items)
+
+pub same_list : (f g : Forest SlotValue) (r : Root) → Grows Alike f g → shared.Belongs Alike f r → list_of g r ≡ list_of f r
+same_list f g r h b = ap (λ (t : Tree SlotValue). values t) (h.trees r b)
+
+pub base_grows : (l : Limits) (f g : Forest SlotValue) → IsBase l f → Grows Alike f g → IsBase l g
+base_grows l f g b h = is_base l g (h.slots ∙ b.slots) first (ap (λ (r : Root). length (list_of g r)) h.first ∙ ap length (same_list f g f.first h b.first) ∙ named_length l f f.first b b.first)
+  where
+    first : shared.Belongs Alike g g.first
+    first = subst (λ (r : Root). shared.Belongs Alike g r) (sym h.first) (h.roots f.first b.first)
+
+-- ---- environments
+pub flat_same : (l : Limits) (f g : Forest SlotValue) (e : Env) → Grows Alike f g → Belongs (shop_over l f) e → flat_of (shop_over l g) e ≡ flat_of (shop_over l f) e
+unfolding flat_of IsNamed
+flat_same l f g Dead h b = refl
+flat_same l f g (Live t r) h b = ap (λ (xs : List SlotValue). live t (spans_of xs)) (same_list f g r h b.named)
+
+pub named_grows : (l : Limits) (f g : Forest SlotValue) (e : Env) → Grows Alike f g → IsNamed (shop_over l f) e → IsNamed (shop_over l g) e
+unfolding IsNamed
+named_grows l f g Dead h b = tt
+named_grows l f g (Live t r) h b = h.roots r b
+
+pub keeps : (l : Limits) (f g : Forest SlotValue) → Grows Alike f g → Keeps (shop_over l f) (shop_over l g)
+keeps l f g h = record {
+  limits = refl;
+  belongs = λ e b. record {
+    named = named_grows l f g e h b.named;
+    fair = subst (λ (x : Flat). IsFair l x) (sym (flat_same l f g e h b)) b.fair;
+  };
+  flats = λ e b. flat_same l f g e h b;
+}
+
+pub keeps_self : (s : Stock) → Keeps s s
+keeps_self s = record { limits = refl; belongs = λ e b. b; flats = λ e b. refl }
+
+pub keeps_on : (s t u : Stock) → Keeps s t → Keeps t u → Keeps s u
+keeps_on s t u h k = record {
+  limits = k.limits ∙ h.limits;
+  belongs = λ e b. k.belongs e (h.belongs e b);
+  flats = λ e b. k.flats e (h.belongs e b) ∙ h.flats e b;
+}
+
+-- ---- an environment that was made
+pub flat_live : (l : Limits) (f : Forest SlotValue) (t : Span) (r : Root) (xs : List SlotValue) (ys : List Span) → list_of f r ≡ xs → spans_of xs ≡ ys → flat_of (shop_over l f) (Live t r) ≡ live t ys
+unfolding flat_of
+flat_live l f t r xs ys e h = ap (λ (zs : List SlotValue). live t (spans_of zs)) e ∙ ap (λ (zs : List Span). live t zs) h
+
+pub belongs_live : (l : Limits) (f : Forest SlotValue) (t : Span) (r : Root) (x : Flat) → shared.Belongs Alike f r → flat_of (shop_over l f) (Live t r) ≡ x → IsFair l x → Belongs (shop_over l f) (Live t r)
+unfolding IsNamed
+belongs_live l f t r x b e h = record { named = b; fair = subst (λ (y : Flat). IsFair l y) (sym e) h }
+
+pub belongs_dead : (s : Stock) → Belongs s Dead
+unfolding IsNamed flat_of
+belongs_dead s = record { named = tt; fair = tt }
+
+pub root_of_live : (s : Stock) (t : Span) (r : Root) → Belongs s (Live t r) → shared.Belongs Alike s.lists r
+unfolding IsNamed
+root_of_live s t r b = b.named
