@@ -1,3 +1,4 @@
 pub mod Fairness
 pub mod Lists
+pub mod Order
 pub mod Shops

@@ -115,7 +115,8 @@ ticked l (live clock cells) = at_clock (meet_of (sum_of clock (single (pos 1))) 
 
 -- the same cells at the clock of another environment
 abbrev pub with_clock : Flat → Flat → Flat
-with_clock e of = at_clock (clock_of of) (cells_of e)
+with_clock dead of = dead
+with_clock (live clock cells) of = at_clock (clock_of of) cells
 
 -- ---- widening (Cousot and Cousot 1977), by this project's own schedule of passes
 -- a clock that rises goes to the last one

@@ -1,4 +1,5 @@
 pub mod Flat
+pub mod Laws
 pub mod Shop
 pub mod SlotLaws
 pub mod Slots
