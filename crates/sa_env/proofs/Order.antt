@@ -134,7 +134,7 @@ below_widened_second l thresholds pass a b h k =
     by_pass (λ (e : Flat). IsBelow b e) l thresholds pass a b (below_join_second l a b h k) (spread_second l thresholds pass a b h k) (below_top l b k)
 
 -- ---- the test
-part_test : (a b : Span) → (is_part a b ≡ true → IsPart a b) × (IsPart a b → is_part a b ≡ true)
+pub part_test : (a b : Span) → (is_part a b ≡ true → IsPart a b) × (IsPart a b → is_part a b ≡ true)
 part_test a b = ((λ h. record { above = grind (arith, ints); below = grind (arith, ints) }), (λ p. let u = p.above in let v = p.below in grind (arith, ints)))
 
 both_true : (p q : Bool) → (p && q) ≡ true → (p ≡ true) × (q ≡ true)
