@@ -13,7 +13,7 @@ use Rattle.sa_env.specs.declared.slot.SlotValue.TheVariants.{Cell}
 use Rattle.sa_env.specs.declared.env.Env.{Env}
 use Rattle.sa_env.specs.declared.env.Env.TheVariants.{Dead, Live}
 use Rattle.sa_env.specs.Slots.{span_of, spans_of, Alike}
-use Rattle.sa_env.specs.Flat.{Flat, live, Limits, IsFair}
+use Rattle.sa_env.specs.Flat.{Flat, dead, live, Limits, IsFair}
 use Rattle.sa_env.specs.Shop.{Stock, IsBase, shop_over, flat_of, IsNamed, Belongs, Keeps}
 use Rattle.sa_env.proofs.Lists.{each_alike, length_spans}
 
@@ -97,3 +97,30 @@ belongs_dead s = record { named = tt; fair = tt }
 pub root_of_live : (s : Stock) (t : Span) (r : Root) → Belongs s (Live t r) → shared.Belongs Alike s.lists r
 unfolding IsNamed
 root_of_live s t r b = b.named
+
+-- ---- a changed shop, and what is made in it
+pub kept : (l : Limits) (f g : Forest SlotValue) (s : Stock) → shop_over l f ≡ s → Grows Alike f g → Keeps s (shop_over l g)
+kept l f g s e h = subst (λ (t : Stock). Keeps t (shop_over l g)) e (keeps l f g h)
+
+pub made_belongs : (l : Limits) (f g : Forest SlotValue) (s : Stock) (t : Span) (r : Root) (x : Flat) → shop_over l f ≡ s → shared.Belongs Alike g r → flat_of (shop_over l g) (Live t r) ≡ x → IsFair s.limits x → Belongs (shop_over l g) (Live t r)
+made_belongs l f g s t r x e b v h = belongs_live l g t r x b v (subst (λ (u : Stock). IsFair u.limits x) (sym e) h)
+
+-- ---- an environment that was given
+pub root_given : (l : Limits) (f : Forest SlotValue) (s : Stock) (e : Env) (t : Span) (r : Root) → shop_over l f ≡ s → e ≡ Live t r → Belongs s e → shared.Belongs Alike f r
+root_given l f s e t r q i b = root_of_live (shop_over l f) t r (subst (λ (u : Stock). Belongs u (Live t r)) (sym q) (subst (λ (x : Env). Belongs s x) i b))
+
+pub flat_given : (l : Limits) (f : Forest SlotValue) (s : Stock) (e : Env) (t : Span) (r : Root) → shop_over l f ≡ s → e ≡ Live t r → flat_of s e ≡ live t (spans_of (list_of f r))
+unfolding flat_of
+flat_given l f s e t r q i = ap (λ (x : Env). flat_of s x) i ∙ ap (λ (u : Stock). flat_of u (Live t r)) (sym q)
+
+pub flat_dead : (s : Stock) → flat_of s Dead ≡ dead
+unfolding flat_of
+flat_dead s = refl
+
+pub given_dead : (s : Stock) (e : Env) → e ≡ Dead → flat_of s e ≡ dead
+unfolding flat_of
+given_dead s e i = ap (λ (x : Env). flat_of s x) i
+
+-- the cells of an environment in the frame's ranges
+pub given_in : (l : Limits) (f : Forest SlotValue) (s : Stock) (e : Env) (t : Span) (r : Root) → shop_over l f ≡ s → e ≡ Live t r → Belongs s e → IsFair l (live t (spans_of (list_of f r)))
+given_in l f s e t r q i b = subst (λ (u : Stock). IsFair u.limits (live t (spans_of (list_of f r)))) (sym q) (subst (λ (x : Flat). IsFair s.limits x) (flat_given l f s e t r q i) b.fair)
