@@ -9,7 +9,7 @@ use Rattle.sa_shared.specs.Slots.{EachSlot}
 use Rattle.sa_shared.specs.Tree.{values, tree_at, IsTree, Extends}
 use Rattle.sa_shared.specs.Forest.{Forest, Belongs, Grows, list_of}
 use Rattle.sa_shared.specs.Copies.{IsSameList}
-use Rattle.sa_shared.proofs.Lists.{each_between, each_back, each_valid, all_of}
+use Rattle.sa_shared.proofs.Lists.{each_between, each_valid, all_of}
 use Rattle.sa_shared.proofs.Unfolding.{tree_kept, size}
 
 module _ {T : Type 0} where

@@ -1,6 +1,9 @@
+pub mod Combining
 pub mod Copying
+pub mod Counts
 pub mod Depth
 pub mod Forests
+pub mod Halves
 pub mod Lists
 pub mod Sample
 pub mod Unfolding

@@ -160,6 +160,11 @@ module _ {T : Type 0} where
   pub grown : (base old new : List (Node T)) (x : Node T) → new ≡ old ++ x ∷ [] → base ++ new ≡ (base ++ old) ++ x ∷ []
   grown base old new x is = ap (λ l. base ++ l) is ∙ sym (append_assoc base old (x ∷ []))
 
+  pub one_more : {E : Type 0} (r : Result ℕ E) (old new : List (Node T)) (x : Node T) → IfOk r (λ n. (n ≡ length old) × (new ≡ old ++ x ∷ []))
+      → OnErr r (new ≡ old) → length new ≤ length old + 1
+  one_more (Ok n) old new x h k = omega (arith, ap length h.1, length-append old (x ∷ []))
+  one_more (Err e) old new x h k = omega (arith, ap length k)
+
   -- as a vector's push says it
   pub extends_if : (b : Bool) (base old new : List (Node T)) (x : Node T) → new ≡ (if b then old ++ x ∷ [] else old) → Extends (base ++ old) (base ++ new)
   extends_if true base old new x is = subst (Extends (base ++ old)) (sym (grown base old new x is)) (extends_push (base ++ old) x)
@@ -314,7 +319,7 @@ module _ {T : Type 0} where
       go true before (Fork l r) = refl
       go false before x = before
 
-  number_at : (nodes : List (Node T)) (n : ℕ) → number (tree_at nodes n) ≡ n
+  pub number_at : (nodes : List (Node T)) (n : ℕ) → number (tree_at nodes n) ≡ n
   unfolding tree_at
   number_at nodes n = number_in (reverse nodes) n
 

@@ -1,11 +1,11 @@
 -- Walks over the slots of a tree, half by half.
-use Rattle.std.proofs.Common.{◌≡◌, ◌⊎◌, inl, inr, ℕ, zero, suc, ◌+◌, ◌-◌, ◌/◌, ◌<◌, ◌≤◌, List, [], ◌∷◌, ◌++◌, length, take, drop, slice_get, Bool, true, false, Option, None, Some, refl, sym, ap, ◌∙◌, subst, arith}
-use Rattle.std.specs.Prelude.{if◌then◌else◌, ◌&&◌, nat_le, nat_lt, unwrap_or, is_some}
+use Rattle.std.proofs.Common.{◌≡◌, ℕ, zero, suc, ◌+◌, ◌-◌, ◌<◌, ◌≤◌, List, [], ◌∷◌, ◌++◌, length, take, drop, slice_get, Bool, true, false, Option, None, Some, refl, sym, ap, ◌∙◌, subst, arith}
+use Rattle.std.specs.Prelude.{if◌then◌else◌, ◌&&◌, nat_le, nat_lt, unwrap_or}
 use Rattle.std.proofs.lemmas.Bool.Decides.{nat_tests}
-use Rattle.sa_shared.specs.declared.nodes.Node.{Node}
-use Rattle.sa_shared.specs.Tree.{Tree, fork, values, IsTree, tree_at}
-use Rattle.sa_shared.proofs.Unfolding.{size}
-use Rattle.sa_shared.specs.Walks.{in_range, step_in_range, changed, combined, folded, AtEach, Within, InRange}
+use Rattle.std.proofs.Common.{length-append}
+use Rattle.sa_shared.specs.Slots.{EachSlot}
+use Rattle.sa_shared.specs.Tree.{Tree, empty, leaf, fork, values}
+use Rattle.sa_shared.specs.Walks.{in_range, step_in_range, changed, folded, changes, some_count, with_above, AtEach, Within, InRange}
 
 tested : (from to k : ℕ) → from ≤ k → k < to → (nat_le from k && nat_lt k to) ≡ true
 tested from to k h i = grind (arith, nat_tests)
@@ -128,39 +128,81 @@ module _ {T : Type 0} where
     unfolding folded within_step
     folded_one a k x least most = here a k x least most
 
-  -- the halves of a tree over the slots from one number up to another
-  module _ (nodes : List (Node T)) (from to mid slots n l r : ℕ) (order : from ≤ to) (long : slots ≡ to - from) (middle : mid ≡ to - (to - from) / 2)
-      (tree : tree_at nodes n ≡ fork n (tree_at nodes l) (tree_at nodes r)) (left : IsTree nodes (slots - slots / 2) l) (right : IsTree nodes (slots / 2) r) where
-    pub left_half : IsTree nodes (mid - from) l
-    left_half = let e : slots - slots / 2 ≡ mid - from = omega (arith, order, long, middle) in subst (λ m. IsTree nodes m l) e left
+  module _ (from to : ℕ) (f : ℕ → T → Option T) where
+    in_here : (k : ℕ) (x : T) → from ≤ k → k < to → in_range from to f k x ≡ f k x
+    unfolding in_range
+    in_here k x least most = ap (λ b. if b then f k x else None) (tested from to k least most)
 
-    pub right_half : IsTree nodes (to - mid) r
-    right_half = let e : slots / 2 ≡ to - mid = omega (arith, order, long, middle) in subst (λ m. IsTree nodes m r) e right
+    in_elsewhere : (k : ℕ) (x : T) → (from ≤ k → k < to → ⊥) → in_range from to f k x ≡ None
+    unfolding in_range
+    in_elsewhere k x out = ap (λ b. if b then f k x else None) (not_tested from to k out)
 
-    pub to_middle : from + length (values (tree_at nodes l)) ≡ mid
-    to_middle = omega (arith, size (tree_at nodes l) (slots - slots / 2) left.balanced, order, long, middle)
+    -- slots outside of the range stay
+    pub changed_apart : (k : ℕ) (xs : List T) → ((j : ℕ) → j < length xs → from ≤ k + j → k + j < to → ⊥) → changed (in_range from to f) k xs ≡ xs
+    unfolding changed
+    changed_apart k [] out = refl
+    changed_apart k (x ∷ xs) out =
+        let e = in_elsewhere k x (λ least most. out 0 (omega arith) (omega (arith, least)) (omega (arith, most))) in
+        ap (λ v. unwrap_or v x ∷ changed (in_range from to f) (suc k) xs) e
+        ∙ ap (λ l. x ∷ l) (changed_apart (suc k) xs (λ j less least most. out (suc j) (omega (arith, less)) (omega (arith, least)) (omega (arith, most))))
 
-    pub each_left : (P : ℕ → T → Type 0) → AtEach P from (values (tree_at nodes n)) → AtEach P from (values (tree_at nodes l))
-    each_left P h = at_front P from (values (tree_at nodes l)) (values (tree_at nodes r)) (subst (λ t. AtEach P from (values t)) tree h)
+    pub changes_apart : (t : Tree T) (k : ℕ) → ((j : ℕ) → j < length (values t) → from ≤ k + j → k + j < to → ⊥) → changes (in_range from to f) k t ≡ 0
+    unfolding changes some_count with_above
+    changes_apart (empty n) k out = refl
+    changes_apart (leaf n x) k out = ap some_count (in_elsewhere k x (λ least most. out 0 (omega arith) (omega (arith, least)) (omega (arith, most))))
+    changes_apart (fork n s t) k out =
+        let long = length-append (values s) (values t) in
+        let m = length (values s) in
+        let first = changes_apart s k (λ j less least most. out j (omega (arith, less, long)) least most) in
+        let second = changes_apart t (k + m)
+        (λ j less least most. out (m + j) (omega (arith, less, long)) (omega (arith, least)) (omega (arith, most))) in
+        ap (λ a. with_above (a + changes (in_range from to f) (k + m) t)) first ∙ ap (λ b. with_above (0 + b)) second
 
-    pub each_right : (P : ℕ → T → Type 0) → AtEach P from (values (tree_at nodes n)) → AtEach P mid (values (tree_at nodes r))
-    each_right P h =
-        subst (λ k. AtEach P k (values (tree_at nodes r))) to_middle
-        (at_behind P from (values (tree_at nodes l)) (values (tree_at nodes r)) (subst (λ t. AtEach P from (values t)) tree h))
+    pub changed_one : (k : ℕ) (x : T) (v : Option T) → from ≤ k → k < to → v ≡ f k x → changed (in_range from to f) k (x ∷ []) ≡ unwrap_or v x ∷ []
+    unfolding changed
+    changed_one k x v least most is = ap (λ w. unwrap_or w x ∷ []) (in_here k x least most ∙ sym is)
 
-    pub folded_halves : {A : Type 0} (lo hi : ℕ) (step : A → ℕ → T → A) (a b c : A) → b ≡ folded (step_in_range lo hi step) from a (values (tree_at nodes l))
-        → c ≡ folded (step_in_range lo hi step) mid b (values (tree_at nodes r)) → c ≡ folded (step_in_range lo hi step) from a (values (tree_at nodes n))
-    folded_halves lo hi step a b c first second =
-        let f = step_in_range lo hi step in
-        let x = values (tree_at nodes l) in
-        let y = values (tree_at nodes r) in
-        second ∙ ap (λ d. folded f mid d y) first ∙ ap (λ k. folded f k (folded f from a x) y) (sym to_middle) ∙ sym (folded_on lo hi step from a x y)
-        ∙ ap (λ t. folded f from a (values t)) (sym tree)
+    pub changes_one : (n k : ℕ) (x : T) (v : Option T) → from ≤ k → k < to → v ≡ f k x → changes (in_range from to f) k (leaf n x) ≡ some_count v
+    unfolding changes
+    changes_one n k x v least most is = ap some_count (in_here k x least most ∙ sym is)
 
-    pub fits_behind : {A : Type 0} (lo hi : ℕ) (step : A → ℕ → T → A) (fits : A → ℕ → T → Type 0)
-        → ((a : A) (j k : ℕ) (x y : T) → fits a j x → fits a k y → fits (step a j x) k y) → (a b : A) → b ≡ folded (step_in_range lo hi step) from a (values (tree_at nodes l))
-        → AtEach (Within lo hi (fits a)) from (values (tree_at nodes n)) → AtEach (Within lo hi (fits b)) mid (values (tree_at nodes r))
-    fits_behind lo hi step fits law a b is h =
-        let y = values (tree_at nodes r) in
-        subst (λ d. AtEach (Within lo hi (fits d)) mid y) (sym is)
-        (still_fits lo hi step fits law from a (values (tree_at nodes l)) (each_left (Within lo hi (fits a)) h) mid y (each_right (Within lo hi (fits a)) h))
+  pub changed_on : (f : ℕ → T → Option T) (k : ℕ) (xs ys : List T) → changed f k (xs ++ ys) ≡ changed f k xs ++ changed f (k + length xs) ys
+  unfolding changed
+  changed_on f k [] ys = let e : k ≡ k + 0 = omega arith in ap (λ n. changed f n ys) e
+  changed_on f k (x ∷ xs) ys =
+      let e : suc k + length xs ≡ k + suc (length xs) = omega arith in
+      ap (λ l. unwrap_or (f k x) x ∷ l) (changed_on f (suc k) xs ys ∙ ap (λ n. changed f (suc k) xs ++ changed f n ys) e)
+
+  -- a value that takes another's place, or stays
+  pub taken : (R : T → T → Type 0) → ((x y z : T) → R x y → R y z → R x z) → (x y : T) (v : Option T) → R x y → ((z : T) → v ≡ Some z → R y z)
+      → R x (unwrap_or v y)
+  taken R on x y None now new = now
+  taken R on x y (Some z) now new = on x y z now (new z refl)
+
+  -- in a range the law holds of the function cut to it
+  pub like_in_range : (R : T → T → Type 0) (from to : ℕ) (fits : ℕ → T → Type 0) (f : ℕ → T → Option T) → ((k : ℕ) (x y : T) → R x x → fits k x → f k x ≡ Some y → R x y)
+      → (k : ℕ) (x y : T) → R x x → Within from to fits k x → in_range from to f k x ≡ Some y → R x y
+  like_in_range R from to fits f law k x y valid h is = go (nat_le from k) refl (nat_lt k to) refl
+    where
+      out : (from ≤ k → k < to → ⊥) → R x y
+      out apart = let same : None ≡ Some y = sym (in_elsewhere from to f k x apart) ∙ is in absurd (cc)
+
+      go : (b : Bool) → nat_le from k ≡ b → (d : Bool) → nat_lt k to ≡ d → R x y
+      go false e d i = out (λ least most. grind (arith, nat_tests))
+      go true e false i = out (λ least most. grind (arith, nat_tests))
+      go true e true i =
+          let least : from ≤ k = grind (arith, nat_tests) in
+          let most : k < to = grind (arith, nat_tests) in
+          law k x y valid (h least most) (sym (in_here from to f k x least most) ∙ is)
+
+  module _ (R : T → T → Type 0) (back : (x y : T) → R x y → R y x) (on : (x y z : T) → R x y → R y z → R x z) where
+    pub each_changed : (P : ℕ → T → Type 0) (f : ℕ → T → Option T) → ((k : ℕ) (x y : T) → R x x → P k x → f k x ≡ Some y → R x y) → (k : ℕ) (xs ys : List T)
+        → EachSlot R xs ys → AtEach P k ys → EachSlot R xs (changed f k ys)
+    unfolding changed
+    each_changed P f law k [] [] h fits = tt
+    each_changed P f law k [] (y ∷ ys) h fits = absurd h
+    each_changed P f law k (x ∷ xs) [] h fits = absurd h
+    each_changed P f law k (x ∷ xs) (y ∷ ys) h fits = (
+      taken R on x y (f k y) h.0 (λ z. law k y z (on y x y (back x y h.0) h.0) fits.0),
+      each_changed P f law (suc k) xs ys h.1 fits.1,
+    )

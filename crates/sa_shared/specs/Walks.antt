@@ -1,5 +1,5 @@
 -- What walks over the slots of lists leave, by functions of a slot's number and value.
-use Rattle.std.specs.Prelude.{◌≡◌, ◌⊎◌, ℕ, zero, suc, ◌+◌, ◌-◌, ◌<◌, ◌≤◌, ◌==◌, ◌&&◌, nat_le, nat_lt, if◌then◌else◌, List, [], ◌∷◌, length, take, drop, Option, None, Some, is_some, unwrap_or, slice_get}
+use Rattle.std.specs.Prelude.{◌≡◌, ◌⊎◌, ℕ, zero, suc, ◌+◌, ◌<◌, ◌≤◌, ◌==◌, ◌&&◌, nat_le, nat_lt, if◌then◌else◌, List, [], ◌∷◌, length, Option, None, Some, unwrap_or, slice_get}
 use Rattle.sa_shared.specs.Tree.{Tree, empty, leaf, fork, values}
 
 -- so many places, and the one above them if there are any
@@ -10,6 +10,11 @@ with_above (suc n) = suc (suc n)
 -- nothing changes below a place and it keeps its node number, or it has a new one, behind so many older ones
 abbrev pub IsKept : ℕ → ℕ → ℕ → ℕ → Type 0
 IsKept count old nodes new = ((count ≡ 0) × (new ≡ old)) ⊎ ((0 < count) × (nodes ≤ new))
+
+-- how many there are
+unfoldable pub some_count : {A : Type 0} → Option A → ℕ
+some_count None = 0
+some_count (Some x) = 1
 
 module _ {T : Type 0} where
   -- the function at the slots from the first number up to the second, which is not among them, and nothing elsewhere
@@ -35,14 +40,14 @@ module _ {T : Type 0} where
   -- how many places of the tree stand over a slot that the function changes; the tree's first slot is number k
   unfoldable pub changes : (ℕ → T → Option T) → ℕ → Tree T → ℕ
   changes f k (empty n) = 0
-  changes f k (leaf n x) = if is_some (f k x) then 1 else 0
+  changes f k (leaf n x) = some_count (f k x)
   changes f k (fork n s t) = with_above (changes f k s + changes f (k + length (values s)) t)
 
   -- the same of two trees of one shape, where nothing changes below equal node numbers
   unfoldable pub combines : (ℕ → T → T → Option T) → ℕ → Tree T → Tree T → ℕ
   combines f k (fork i s t) (fork j u v) =
       if i == j then 0 else with_above (combines f k s u + combines f (k + length (values s)) t v)
-  combines f k (leaf i x) (leaf j y) = if i == j then 0 else (if is_some (f k x y) then 1 else 0)
+  combines f k (leaf i x) (leaf j y) = if i == j then 0 else some_count (f k x y)
   combines f k s t = 0
 
   -- a step at the slots from the first number up to the second, which is not among them, and none elsewhere

@@ -10,11 +10,10 @@ ghost use Rattle.sa_shared.specs.Forest.{list_of, tree_of, reached, Belongs, Gro
 use crate::OutOfMemory;
 use crate::frozen::Frozen;
 use crate::nodes::{Nodes, Root};
-use crate::slot::Slot;
 use crate::range::Stretch;
+use crate::slot::Slot;
 use crate::walks::{Change, Combine, Fold};
 use sa_steps::Steps;
-use std::alloc::AllocError;
 use std::marker::Model;
 use std::sync::ledger::Ledger;
 
@@ -114,7 +113,12 @@ impl<'a, T: Slot> Layer<'a, T> {
         ensures nodes { length self.new.nodes ≤ length self.old.nodes + changes (in_range from to (C.changed_of by.now)) 0 (tree_of self.old r) }
         ensures same { IfOk result (λ made. changes (in_range from to (C.changed_of by.now)) 0 (tree_of self.old r) ≡ 0 → made ≡ r) }
     {
-        Err(AllocError)
+        let over = Stretch {
+            from: 0,
+            to: self.slots,
+        };
+        let node = self.nodes.change(r.node, over, Stretch { from, to }, by)?;
+        Ok(Root { node })
     }
 
     /// What takes in the values of a range's slots in their order, from the first number up to the second, which is
@@ -144,7 +148,12 @@ impl<'a, T: Slot> Layer<'a, T> {
         ensures differences { length self.new.nodes ≤ length self.old.nodes + differences (tree_of self.old a) (tree_of self.old b) }
         ensures same { IfOk result (λ made. combines (C.combined_of by.now) 0 (tree_of self.old a) (tree_of self.old b) ≡ 0 → made ≡ a) }
     {
-        Err(AllocError)
+        let over = Stretch {
+            from: 0,
+            to: self.slots,
+        };
+        let node = self.nodes.combine(a.node, b.node, over, by)?;
+        Ok(Root { node })
     }
 
     /// The root of the slot-wise join of two lists. Each pair of nodes that it visits is a step, and halves that

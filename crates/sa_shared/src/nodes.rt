@@ -1,7 +1,8 @@
 //! Nodes in one list, those of a base first and then those that were added.
 
-ghost use Rattle.std.specs.Prelude.{◌≡◌, ℕ, ◌+◌, ◌-◌, ◌*◌, ◌/◌, ◌<◌, ◌≤◌, ◌++◌, [], ◌∷◌, length, slice_get, Some, IfOk, IfSome, OnErr};
+ghost use Rattle.std.specs.Prelude.{◌≡◌, ◌⊎◌, ℕ, ◌+◌, ◌-◌, ◌*◌, ◌/◌, ◌<◌, ◌≤◌, ◌++◌, [], ◌∷◌, length, slice_get, unwrap_or, Some, IfOk, IfSome, OnErr};
 ghost use Rattle.sa_shared.specs.Tree.{leaf, fork, values, IsBalanced, IsTree, tree_at, Extends};
+ghost use Rattle.sa_shared.specs.Walks.{IsKept, some_count};
 
 use crate::OutOfMemory;
 use crate::build::build;
@@ -121,6 +122,47 @@ impl<'a, T: Drop> Nodes<'a, T> {
         ensures nodes { length self.new ≤ length self.old + (1 + 2 * (slots - 1)) }
     {
         build(list, slots, self.base, &mut self.added)
+    }
+
+    /// The tree of one slot with another value in it: itself where there is none, else a new node.
+    pub(crate) fn with_value(&mut self, number: u32, value: Option<T>) -> Result<u32, OutOfMemory>
+        requires { IsTree self.old 1 number }
+        ensures tree { IfOk result (λ n. IsTree self.new 1 n) }
+        ensures list { IfOk result (λ n. (x : T) → values (tree_at self.old number) ≡ x ∷ [] → values (tree_at self.new n) ≡ unwrap_or value x ∷ []) }
+        ensures older { Extends self.old self.new }
+        ensures nodes { length self.new ≤ length self.old + some_count value }
+        ensures kept { IfOk result (λ n. IsKept (some_count value) number (length self.old) n) }
+    {
+        match value {
+            None => Ok(number),
+            Some(value) => self.push(Node::Leaf(value)),
+        }
+    }
+
+    /// The tree of two slots or more with new halves: itself where they are its own, else a new node.
+    pub(crate) fn with_halves(
+        &mut self,
+        slots: u32,
+        number: u32,
+        old: (u32, u32),
+        new: (u32, u32),
+    ) -> Result<u32, OutOfMemory>
+        requires some { 2 ≤ slots }
+        requires tree { IsTree self.old slots number }
+        requires halves { tree_at self.old number ≡ fork number (tree_at self.old old.0) (tree_at self.old old.1) }
+        requires left { IsTree self.old (slots - slots / 2) new.0 }
+        requires right { IsTree self.old (slots / 2) new.1 }
+        ensures tree { IfOk result (λ n. IsTree self.new slots n) }
+        ensures list { IfOk result (λ n. values (tree_at self.new n) ≡ values (tree_at self.old new.0) ++ values (tree_at self.old new.1)) }
+        ensures older { Extends self.old self.new }
+        ensures same { (new.0 ≡ old.0) × (new.1 ≡ old.1) → self.new ≡ self.old }
+        ensures nodes { length self.new ≤ length self.old + 1 }
+        ensures kept { IfOk result (λ n. (((new.0 ≡ old.0) × (new.1 ≡ old.1)) × (n ≡ number)) ⊎ (((new.0 ≡ old.0) × (new.1 ≡ old.1) → ⊥) × (n ≡ length self.old))) }
+    {
+        if new.0 == old.0 && new.1 == old.1 {
+            return Ok(number);
+        }
+        self.push(Node::Fork(new.0, new.1))
     }
 }
 

@@ -1,12 +1,15 @@
 //! What is read of trees, and their joins. Depths are those of the fixed shape, at most 32.
 
-ghost use Rattle.std.specs.Prelude.{◌≡◌, ℕ, ◌+◌, ◌*◌, ◌<◌, ◌≤◌, ◌↔◌, length, slice_get, Some, IfOk, OnOk, IsTrue};
+ghost use Rattle.std.specs.Prelude.{◌≡◌, ℕ, ◌+◌, ◌-◌, ◌*◌, ◌<◌, ◌≤◌, ◌↔◌, length, slice_get, Some, IfOk, OnOk, IsTrue};
 ghost use Rattle.sa_shared.specs.Slots.{slotwise, EachSlot};
+ghost use Rattle.sa_shared.specs.Walks.{AtBoth, IsKept, combined, combines};
 ghost use Rattle.sa_shared.specs.Tree.{IsTree, tree_at, values, differences, visits, Extends};
 
 use crate::OutOfMemory;
 use crate::nodes::{Node, Nodes};
+use crate::range::Stretch;
 use crate::slot::Slot;
+use crate::walks::Combine;
 use sa_steps::Steps;
 use std::sync::ledger::Ledger;
 
@@ -47,6 +50,51 @@ impl<'a, T: Slot> Nodes<'a, T> {
         let (other_left, other_right) = self.halves(slots, b);
         let behind = slots / 2;
         self.le(slots - behind, left, other_left) && self.le(behind, right, other_right)
+    }
+
+    /// The slot-wise combination of two trees over these slots. A node is made for each place over a slot that changes.
+    pub(crate) fn combine<C: Combine<T>>(
+        &mut self,
+        a: u32,
+        b: u32,
+        over: Stretch,
+        by: &C,
+    ) -> Result<u32, OutOfMemory>
+        requires first { IsTree self.old (over.to - over.from) a }
+        requires second { IsTree self.old (over.to - over.from) b }
+        requires order { over.from ≤ over.to }
+        requires alike { EachSlot T.like (values (tree_at self.old a)) (values (tree_at self.old b)) }
+        requires fits { AtBoth (C.fits by.now) over.from (values (tree_at self.old a)) (values (tree_at self.old b)) }
+        ensures tree { IfOk result (λ n. IsTree self.new (over.to - over.from) n) }
+        ensures list { IfOk result (λ n. values (tree_at self.new n)
+            ≡ combined (C.combined_of by.now) over.from (values (tree_at self.old a)) (values (tree_at self.old b))) }
+        ensures older { Extends self.old self.new }
+        ensures nodes { length self.new ≤ length self.old + combines (C.combined_of by.now) over.from (tree_at self.old a) (tree_at self.old b) }
+        ensures kept { IfOk result
+            (λ n. IsKept (combines (C.combined_of by.now) over.from (tree_at self.old a) (tree_at self.old b)) a (length self.old) n) }
+    {
+        let slots = over.slots();
+        if a == b || slots == 0 {
+            return Ok(a);
+        }
+        if slots == 1 {
+            let value = by.combined(self.allocator(), over.from, self.value(a), self.value(b))?;
+            return self.with_value(a, value);
+        }
+        let (left, right) = self.halves(slots, a);
+        let (other_left, other_right) = self.halves(slots, b);
+        let middle = over.middle();
+        let front = Stretch {
+            from: over.from,
+            to: middle,
+        };
+        let behind = Stretch {
+            from: middle,
+            to: over.to,
+        };
+        let new_left = self.combine(left, other_left, front, by)?;
+        let new_right = self.combine(right, other_right, behind, by)?;
+        self.with_halves(slots, a, (left, right), (new_left, new_right))
     }
 
     /// The slot-wise join of two trees. Where their node numbers are equal, the tree itself.

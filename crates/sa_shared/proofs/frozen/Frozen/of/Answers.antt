@@ -1,5 +1,4 @@
 use Rattle.std.proofs.Common.{rules, ◌≡◌, length}
-use Rattle.sa_shared.specs.Tree.{values, tree_at}
 use Rattle.sa_shared.proofs.Forests.{of_list, of_valid}
 use Rattle.sa_shared.proofs.frozen.Frozen.of.Goals as goal
 

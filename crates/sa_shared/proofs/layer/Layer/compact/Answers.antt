@@ -1,10 +1,7 @@
 use Rattle.std.proofs.Common.{map, sym, ap, ◌∙◌, subst, arith}
 use Rattle.std.specs.List.{All}
-use Rattle.std.proofs.lemmas.List.Elements.{AllZip-get_or, length_all_zip}
-use Rattle.sa_shared.specs.declared.nodes.Root.{Root}
-use Rattle.sa_shared.specs.Tree.{IsTree}
+use Rattle.std.proofs.lemmas.List.Elements.{length_all_zip}
 use Rattle.sa_shared.specs.Forest.{Forest, Belongs, list_of}
-use Rattle.sa_shared.specs.Copies.{IsSameList}
 use Rattle.sa_shared.proofs.Copying.{lists_same, first_get}
 use Rattle.sa_shared.proofs.Forests.{copied_belongs}
 use Rattle.sa_shared.proofs.layer.Layer.compact.Goals as goal

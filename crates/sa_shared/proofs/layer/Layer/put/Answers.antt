@@ -1,4 +1,4 @@
-use Rattle.std.proofs.Common.{◌≡◌, ◌∙◌, length, sym, subst, arith}
+use Rattle.std.proofs.Common.{◌≡◌, length, sym, subst, arith}
 use Rattle.std.proofs.lemmas.List.Elements.{length_all_zip}
 use Rattle.sa_shared.specs.Slots.{EachSlot}
 use Rattle.sa_shared.specs.Forest.{list_of}

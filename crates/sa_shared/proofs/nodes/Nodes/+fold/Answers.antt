@@ -2,7 +2,8 @@ use Rattle.std.proofs.Common.{rules, ◌≡◌, ◌-◌, ◌∙◌, true, sym, a
 use Rattle.sa_shared.specs.Tree.{tree_at, values}
 use Rattle.sa_shared.specs.Walks.{Within, folded, step_in_range}
 use Rattle.sa_shared.proofs.Unfolding.{size}
-use Rattle.sa_shared.proofs.Walking.{folded_apart, folded_one, left_half, right_half, each_left, folded_halves, fits_behind}
+use Rattle.sa_shared.proofs.Walking.{folded_apart, folded_one}
+use Rattle.sa_shared.proofs.Halves.{left_half, right_half, each_left, folded_halves, fits_behind}
 use Rattle.sa_shared.proofs.nodes.Nodes.+fold.Goals as goal
 
 pub returns-then-not-meets : goal.returns-then-not-meets
