@@ -11,7 +11,7 @@ ghost use Rattle.sa_env.specs.Flat.{dead, live, IsIn, is_below, IsBelow, IsFair,
 ghost use Rattle.sa_env.specs.Shop.{IsBase, shop_over, flat_of, is_live, roots_of, with_roots, Belongs, Keeps};
 
 use crate::bounds::widened_clock;
-use crate::walks::{Spread, Weakly};
+use crate::walks::{Hull, Spread, Weakly};
 use crate::{Env, Frame, OutOfMemory, SlotValue};
 use sa_interval::{Interval, Thresholds};
 use sa_shared::{Frozen, Layer, Root, Slot};
@@ -58,11 +58,9 @@ impl<'a> Shop<'a> {
         ensures value { IfOk result (λ made. flat_of self.new made ≡ top_of self.old.limits) }
         ensures older { Keeps self.old self.new }
     {
+        let clock = self.frame.clock();
         let root = self.layer.put(self.frame.tops()?)?;
-        Ok(Env::Live {
-            clock: self.frame.clock(),
-            root,
-        })
+        Ok(Env::Live { clock, root })
     }
 
     /// The interval of a cell; None exactly for the dead environment.
@@ -77,6 +75,32 @@ impl<'a> Shop<'a> {
             Env::Dead => None,
             Env::Live { root, .. } => Some(self.layer.get(*root, c).span()),
         }
+    }
+
+    /// The join of so many cells from the first on; None exactly for the dead environment, and where there are none.
+    pub fn cells_join(&self, e: &Env, first: u32, count: u32) -> Option<Interval>
+        requires belongs { Belongs self.now e.now }
+        requires cells { first + count ≤ length self.now.limits.tops }
+        ensures { result ≡ join_between first count (flat_of self.now e.now) }
+    {
+        match e {
+            Env::Dead => None,
+            Env::Live { root, .. } => {
+                let end = self.end(first, count);
+                let none = Hull { span: None };
+                self.layer.fold(*root, first, end, none).span
+            }
+        }
+    }
+
+    /// The number of the slot behind so many from the first on.
+    fn end(&self, first: u32, count: u32) -> u32
+        requires { first + count ≤ length self.now.limits.tops }
+        ensures { result ≡ first + count }
+    {
+        let slots = self.layer.slots();
+        prove!(count <= slots && first <= slots - count);
+        first + count
     }
 
     /// The interval of the clock; None exactly for the dead environment.
@@ -132,8 +156,9 @@ impl<'a> Shop<'a> {
         match e {
             Env::Dead => Ok(Env::Dead),
             Env::Live { clock, root } => {
+                let end = self.end(first, count);
                 let by = Weakly { span: v };
-                let root = self.layer.change(*root, first, first + count, &by)?;
+                let root = self.layer.change(*root, first, end, &by)?;
                 Ok(Env::Live {
                     clock: *clock,
                     root,

@@ -1,13 +1,14 @@
 //! What is done with slots on a walk over them.
 
-ghost use Rattle.std.specs.Prelude.{◌≡◌, ◌<◌, ⊤};
-ghost use Rattle.sa_env.specs.Slots.{slot_weakened};
+ghost use Rattle.std.specs.Prelude.{◌≡◌, ⊤};
+ghost use Rattle.sa_env.specs.Slots.{span_of, slot_weakened};
 ghost use Rattle.sa_env.specs.Walks.{AreUnder, spread_at};
+ghost use Rattle.sa_env.specs.Flat.{joined_to};
 ghost use Rattle.sa_env.specs.WalkLaws.{cells_alike, spread_laws};
 
 use crate::{Frame, OutOfMemory, SlotValue};
 use sa_interval::{Interval, Thresholds};
-use sa_shared::{Change, Combine};
+use sa_shared::{Change, Combine, Fold};
 use std::alloc::Global;
 
 /// A weak assignment: a slot takes the join with an interval.
@@ -56,5 +57,27 @@ impl<'a> Combine<SlotValue> for Spread<'a> {
         b: &SlotValue,
     ) -> Result<Option<SlotValue>, OutOfMemory> {
         Ok(a.spread(b, self.frame.top(slot), self.thresholds, self.pass))
+    }
+}
+
+/// The join of the cells that it has taken in; None where there were none.
+#[derive(Drop)]
+pub(crate) struct Hull {
+    pub(crate) span: Option<Interval>,
+}
+
+impl Fold<SlotValue> for Hull {
+    ghost fits = { λ h k x. ⊤ };
+
+    ghost with_of = { λ h k x. record { span = joined_to h.span (span_of x) } };
+
+    ghost laws = { λ h j k x y _ _. tt };
+
+    fn with(self, _slot: u32, value: &SlotValue) -> Hull {
+        let span = match self.span {
+            None => value.span(),
+            Some(span) => span.join(value.span()),
+        };
+        Hull { span: Some(span) }
     }
 }
