@@ -13,7 +13,7 @@ use Rattle.sa_env.specs.declared.slot.SlotValue.TheVariants.{Cell}
 use Rattle.sa_env.specs.declared.env.Env.{Env}
 use Rattle.sa_env.specs.declared.env.Env.TheVariants.{Dead, Live}
 use Rattle.sa_env.specs.Slots.{span_of, spans_of, Alike}
-use Rattle.sa_env.specs.Flat.{Flat, dead, live, Limits, IsFair}
+use Rattle.sa_env.specs.Flat.{Flat, dead, live, Limits, IsIn, IsFair}
 use Rattle.sa_env.specs.Shop.{Stock, IsBase, shop_over, flat_of, IsNamed, Belongs, Keeps}
 use Rattle.sa_env.proofs.Lists.{each_alike, length_spans}
 
@@ -124,3 +124,19 @@ given_dead s e i = ap (λ (x : Env). flat_of s x) i
 -- the cells of an environment in the frame's ranges
 pub given_in : (l : Limits) (f : Forest SlotValue) (s : Stock) (e : Env) (t : Span) (r : Root) → shop_over l f ≡ s → e ≡ Live t r → Belongs s e → IsFair l (live t (spans_of (list_of f r)))
 given_in l f s e t r q i b = subst (λ (u : Stock). IsFair u.limits (live t (spans_of (list_of f r)))) (sym q) (subst (λ (x : Flat). IsFair s.limits x) (flat_given l f s e t r q i) b.fair)
+
+pub live_given : (s : Stock) (e : Env) (t : Span) (r : Root) → e ≡ Live t r → flat_of s e ≡ live t (spans_of (list_of s.lists r))
+unfolding flat_of
+live_given s e t r i = ap (λ (x : Env). flat_of s x) i
+
+pub fair_given : (s : Stock) (e : Env) (t : Span) (r : Root) → e ≡ Live t r → Belongs s e → IsFair s.limits (live t (spans_of (list_of s.lists r)))
+fair_given s e t r i b = subst (λ (x : Flat). IsFair s.limits x) (live_given s e t r i) b.fair
+
+pub not_dead : (s : Stock) (e : Env) (t : Span) (r : Root) → e ≡ Live t r → flat_of s e ≡ dead → ⊥
+not_dead s e t r i h = absurd (apart t (spans_of (list_of s.lists r)) (sym (live_given s e t r i) ∙ h))
+  where
+    apart : (t : Span) (xs : List Span) → live t xs ≡ dead → ⊥
+    apart t xs h = cc
+
+pub cells_given : (l : Limits) (f : Forest SlotValue) (s : Stock) (e : Env) (t : Span) (r : Root) → shop_over l f ≡ s → e ≡ Live t r → Belongs s e → EachSlot IsIn s.limits.tops (spans_of (list_of f r))
+cells_given l f s e t r q i b = (subst (λ (x : Flat). IsFair s.limits x) (flat_given l f s e t r q i) b.fair).1

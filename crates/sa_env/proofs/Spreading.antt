@@ -69,10 +69,10 @@ pub spans_spread : (tops : List Span) (thresholds : List ℤ) (pass : ℕ) (xs y
 spans_spread tops thresholds pass xs ys h = spans_from tops thresholds pass 0 xs ys (omega (arith, h))
 
 -- ---- the two lists lie under the tops
-in_at : (tops : List Span) (xs : List SlotValue) (k : ℕ) (x : SlotValue) (d : Span) → EachSlot IsIn tops (spans_of xs) → slice_get xs k ≡ Some x → (k < length tops) × IsPart (span_of x) (get_or tops k d)
+pub in_at : (tops : List Span) (xs : List SlotValue) (k : ℕ) (x : SlotValue) (d : Span) → EachSlot IsIn tops (spans_of xs) → slice_get xs k ≡ Some x → (k < length tops) × IsIn (get_or tops k d) (span_of x)
 in_at tops [] k x d h e = absurd cc
 in_at [] (y ∷ xs) k x d h e = absurd h
-in_at (t ∷ tops) (y ∷ xs) zero x d h e = (omega arith, subst (λ (z : SlotValue). IsPart (span_of z) t) (some_is y x e) h.0.part)
+in_at (t ∷ tops) (y ∷ xs) zero x d h e = (omega arith, subst (λ (z : SlotValue). IsIn t (span_of z)) (some_is y x e) h.0)
   where
     some_is : (y x : SlotValue) → Some y ≡ Some x → y ≡ x
     some_is y x e = cc
@@ -82,4 +82,4 @@ pub are_under : (tops : List Span) (xs ys : List SlotValue) → EachSlot IsIn to
 are_under tops xs ys h g k x y e f =
     let a = in_at tops xs k x (span_of x) h e in
     let b = in_at tops ys k y (span_of x) g f in
-    record { inside = a.0; old = a.1; new = b.1 }
+    record { inside = a.0; old = a.1.part; new = b.1.part }
