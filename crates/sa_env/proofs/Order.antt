@@ -144,7 +144,7 @@ both_true false q h = absurd cc
 true_both : (p q : Bool) → p ≡ true → q ≡ true → (p && q) ≡ true
 true_both p q h k = rw h k
 
-parts_test : (xs ys : List Span) → (all_parts xs ys ≡ true → EachSlot IsPart xs ys) × (EachSlot IsPart xs ys → all_parts xs ys ≡ true)
+pub parts_test : (xs ys : List Span) → (all_parts xs ys ≡ true → EachSlot IsPart xs ys) × (EachSlot IsPart xs ys → all_parts xs ys ≡ true)
 parts_test [] [] = ((λ h. tt), (λ h. refl))
 parts_test [] (y ∷ ys) = ((λ h. absurd cc), (λ h. absurd h))
 parts_test (x ∷ xs) [] = ((λ h. absurd cc), (λ h. absurd h))

@@ -2,6 +2,7 @@
 use Rattle.std.proofs.Common.{◌≡◌, ℕ, ◌<◌, List, [], ◌∷◌, length, map, refl, sym, ap, ◌∙◌, subst, arith}
 use Rattle.std.proofs.lemmas.List.{length-map}
 use Rattle.std.proofs.lemmas.List.Elements.{length_all_zip}
+use Rattle.std.specs.Prelude.{Option, None, Some}
 use Rattle.sa_interval.specs.Span.{Span}
 use Rattle.sa_shared.specs.declared.nodes.Root.{Root}
 use Rattle.sa_shared.specs.Forest.{Forest, list_of, Grows}
@@ -13,8 +14,8 @@ use Rattle.sa_env.specs.declared.slot.SlotValue.TheVariants.{Cell}
 use Rattle.sa_env.specs.declared.env.Env.{Env}
 use Rattle.sa_env.specs.declared.env.Env.TheVariants.{Dead, Live}
 use Rattle.sa_env.specs.Slots.{span_of, spans_of, Alike}
-use Rattle.sa_env.specs.Flat.{Flat, dead, live, Limits, IsIn, IsFair}
-use Rattle.sa_env.specs.Shop.{Stock, IsBase, shop_over, flat_of, IsNamed, Belongs, Keeps}
+use Rattle.sa_env.specs.Flat.{Flat, dead, live, Limits, IsIn, IsFair, at_clock}
+use Rattle.sa_env.specs.Shop.{Stock, IsBase, shop_over, flat_of, env_at, IsNamed, Belongs, Keeps}
 use Rattle.sa_env.proofs.Lists.{each_alike, length_spans}
 
 -- ---- what a shop stands over
@@ -140,3 +141,18 @@ not_dead s e t r i h = absurd (apart t (spans_of (list_of s.lists r)) (sym (live
 
 pub cells_given : (l : Limits) (f : Forest SlotValue) (s : Stock) (e : Env) (t : Span) (r : Root) → shop_over l f ≡ s → e ≡ Live t r → Belongs s e → EachSlot IsIn s.limits.tops (spans_of (list_of f r))
 cells_given l f s e t r q i b = (subst (λ (x : Flat). IsFair s.limits x) (flat_given l f s e t r q i) b.fair).1
+
+-- ---- at another clock
+pub flat_at : (s : Stock) (o : Option Span) (r : Root) → flat_of s (env_at o r) ≡ at_clock o (spans_of (list_of s.lists r))
+unfolding flat_of
+flat_at s None r = refl
+flat_at s (Some t) r = refl
+
+pub belongs_at : (l : Limits) (f : Forest SlotValue) (s : Stock) (o : Option Span) (r : Root) → shop_over l f ≡ s → shared.Belongs Alike f r → IsFair s.limits (flat_of s (env_at o r)) → Belongs s (env_at o r)
+unfolding IsNamed
+belongs_at l f s None r q b h = record { named = tt; fair = h }
+belongs_at l f s (Some t) r q b h = record { named = subst (λ (u : Stock). shared.Belongs Alike u.lists r) q b; fair = h }
+
+-- two at once
+pub of_two : {X : Type 0} (f : Flat → Flat → X) (x y z w : Flat) → x ≡ y → z ≡ w → f x z ≡ f y w
+of_two f x y z w e g = ap (λ (v : Flat). f v z) e ∙ ap (λ (v : Flat). f y v) g

@@ -1,5 +1,5 @@
 -- What contracts see of a shop, and what its environments stand for.
-use Rattle.std.specs.Prelude.{◌≡◌, ◌≤◌, ◌^◌, ◌≤ℤ◌, ℕ, pos, negsuc, ◌-◌, Bool, true, false, List, [], ◌∷◌, length, map, ⊤}
+use Rattle.std.specs.Prelude.{◌≡◌, ◌≤◌, ◌^◌, ◌≤ℤ◌, ℕ, pos, negsuc, ◌-◌, Bool, true, false, List, [], ◌∷◌, length, map, Option, None, Some, ⊤}
 use Rattle.std.specs.List.{All}
 use Rattle.sa_interval.specs.Span.{Span}
 use Rattle.sa_shared.specs.declared.nodes.Root.{Root}
@@ -37,6 +37,11 @@ shop_over l f = record { limits = l; lists = f }
 unfoldable pub flat_of : Stock → Env → Flat
 flat_of s Dead = dead
 flat_of s (Live clock root) = live clock (spans_of (list_of s.lists root))
+
+-- the environment of a list at a clock
+abbrev pub env_at : Option Span → Root → Env
+env_at None root = Dead
+env_at (Some clock) root = Live clock root
 
 abbrev pub is_live : Env → Bool
 is_live Dead = false

@@ -8,7 +8,7 @@ ghost use Rattle.sa_shared.specs.Forest as shared;
 ghost use Rattle.sa_shared.specs.Slots.{slotwise};
 ghost use Rattle.sa_env.specs.Slots.{Alike, slot_join, spans_of};
 ghost use Rattle.sa_env.specs.Flat.{dead, live, IsIn, is_below, IsBelow, IsFair, whole_clock, top_of, join, clock_of, cells_of, cell_of, join_between, assigned, weakly_assigned, ticked, with_clock, spread, widened};
-ghost use Rattle.sa_env.specs.Shop.{IsBase, shop_over, flat_of, is_live, roots_of, with_roots, Belongs, Keeps};
+ghost use Rattle.sa_env.specs.Shop.{IsBase, shop_over, flat_of, env_at, is_live, roots_of, with_roots, Belongs, Keeps};
 
 use crate::bounds::widened_clock;
 use crate::walks::{Hull, Spread, Weakly};
@@ -196,13 +196,10 @@ impl<'a> Shop<'a> {
         ensures { IfOk result (λ slots. spans_of slots.items ≡ cells_of (flat_of self.now e.now)) }
     {
         let alloc = self.frame.allocator();
-        let mut slots = Vec::new(alloc);
-        if let Env::Live { root, .. } = e {
-            for slot in 0..self.layer.slots() {
-                slots.push(self.layer.get(*root, slot).copy(alloc)?)?;
-            }
+        match e {
+            Env::Dead => Ok(Vec::new(alloc)),
+            Env::Live { root, .. } => copies(alloc, &self.layer, *root),
         }
-        Ok(slots)
     }
 
     /// The environment after the wait: the clock adds 1, up to the last one; dead where it can't. The cells stay.
@@ -216,10 +213,7 @@ impl<'a> Shop<'a> {
             Env::Dead => Ok(Env::Dead),
             Env::Live { clock, root } => {
                 let next = clock.add(Interval::new(1, 1));
-                match next.meet(self.frame.clock()) {
-                    None => Ok(Env::Dead),
-                    Some(clock) => Ok(Env::Live { clock, root: *root }),
-                }
+                Ok(env_at(next.meet(self.frame.clock()), *root))
             }
         }
     }
@@ -231,12 +225,9 @@ impl<'a> Shop<'a> {
         ensures belongs { Belongs self.now result }
         ensures value { flat_of self.now result ≡ with_clock (flat_of self.now e.now) (flat_of self.now of.now) }
     {
-        match (e, of) {
-            (Env::Live { root, .. }, Env::Live { clock, .. }) => Env::Live {
-                clock: *clock,
-                root: *root,
-            },
-            _ => Env::Dead,
+        match e {
+            Env::Dead => Env::Dead,
+            Env::Live { root, .. } => env_at(self.clock(of), *root),
         }
     }
 
@@ -368,6 +359,32 @@ impl<'a> Shop<'a> {
         let made = with_roots(alloc, envs, &moved)?;
         Ok((base, made))
     }
+}
+
+/// The environment of this list at a clock; dead where there is no clock.
+fn env_at(clock: Option<Interval>, root: Root) -> Env
+    ensures { result ≡ env_at clock root }
+{
+    match clock {
+        None => Env::Dead,
+        Some(clock) => Env::Live { clock, root },
+    }
+}
+
+/// Copies of a list's values in their order.
+fn copies(
+    alloc: Global,
+    layer: &Layer<SlotValue>,
+    root: Root,
+) -> Result<Vec<SlotValue>, OutOfMemory>
+    requires { shared.Belongs Alike layer.now root }
+    ensures { IfOk result (λ slots. slots.items ≡ list_of layer.now root) }
+{
+    let mut slots = Vec::with_capacity(alloc, layer.slots() as usize)?;
+    for slot in 0..layer.slots() {
+        slots.push(layer.get(root, slot).copy(alloc)?)?;
+    }
+    Ok(slots)
 }
 
 /// The roots of the live ones.
