@@ -1,5 +1,5 @@
 -- The flat lists of slots: what an operation on slots is on their intervals.
-use Rattle.std.proofs.Common.{◌≡◌, ℕ, zero, suc, ◌+◌, ◌<◌, ◌≤◌, Bool, true, false, List, [], ◌∷◌, ◌++◌, length, take, drop, map, get_or, set, refl, sym, ap, ◌∙◌, subst, arith}
+use Rattle.std.proofs.Common.{◌≡◌, ℕ, zero, suc, ◌+◌, ◌<◌, ◌≤◌, Bool, true, false, List, [], ◌∷◌, ◌++◌, length, take, drop, map, get_or, set, refl, sym, ap, ◌∙◌, subst, arith, add-one}
 use Rattle.std.specs.Prelude.{Option, None, Some, unwrap_or, slice_get, option_map, if◌then◌else◌, ℤ}
 use Rattle.std.specs.List.{All}
 use Rattle.std.proofs.lemmas.List.{length-map, map-set}
@@ -37,3 +37,15 @@ below_spans [] [] h = tt
 below_spans [] (y ∷ ys) h = absurd h
 below_spans (x ∷ xs) [] h = absurd h
 below_spans (Cell a ∷ xs) (Cell b ∷ ys) h = (h.0, below_spans xs ys h.1)
+
+-- ---- a list that is copied value by value
+take_suc_get : (xs : List SlotValue) (k : ℕ) (x : SlotValue) → slice_get xs k ≡ Some x → take (suc k) xs ≡ take k xs ++ x ∷ []
+take_suc_get [] k x e = absurd cc
+take_suc_get (y ∷ xs) zero x e = ap (λ (z : SlotValue). z ∷ []) (some_is y x e)
+  where
+    some_is : (y x : SlotValue) → Some y ≡ Some x → y ≡ x
+    some_is y x e = cc
+take_suc_get (y ∷ xs) (suc k) x e = ap (λ (l : List SlotValue). y ∷ l) (take_suc_get xs k x e)
+
+pub take_get : (xs : List SlotValue) (k : ℕ) (x : SlotValue) → slice_get xs k ≡ Some x → take (k + 1) xs ≡ take k xs ++ x ∷ []
+take_get xs k x e = ap (λ (n : ℕ). take n xs) (add-one k) ∙ take_suc_get xs k x e

@@ -156,3 +156,6 @@ belongs_at l f s (Some t) r q b h = record { named = subst (λ (u : Stock). shar
 -- two at once
 pub of_two : {X : Type 0} (f : Flat → Flat → X) (x y z w : Flat) → x ≡ y → z ≡ w → f x z ≡ f y w
 of_two f x y z w e g = ap (λ (v : Flat). f v z) e ∙ ap (λ (v : Flat). f y v) g
+
+pub stock_is : (s : Stock) → shop_over s.limits s.lists ≡ s
+stock_is s = refl

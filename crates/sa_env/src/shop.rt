@@ -209,13 +209,11 @@ impl<'a> Shop<'a> {
         ensures value { IfOk result (λ made. flat_of self.new made ≡ ticked self.old.limits (flat_of self.old e.now)) }
         ensures older { Keeps self.old self.new }
     {
-        match e {
-            Env::Dead => Ok(Env::Dead),
-            Env::Live { clock, root } => {
-                let next = clock.add(Interval::new(1, 1));
-                Ok(env_at(next.meet(self.frame.clock()), *root))
-            }
-        }
+        let Env::Live { clock, root } = e else {
+            return Ok(Env::Dead);
+        };
+        let next = clock.add(Interval::new(1, 1));
+        Ok(env_at(next.meet(self.frame.clock()), *root))
     }
 
     /// The environment with the same cells at the clock of another one; dead where one of them is.
