@@ -209,8 +209,9 @@ impl<'a> Shop<'a> {
         ensures value { IfOk result (λ made. flat_of self.new made ≡ ticked self.old.limits (flat_of self.old e.now)) }
         ensures older { Keeps self.old self.new }
     {
-        let Env::Live { clock, root } = e else {
-            return Ok(Env::Dead);
+        let (clock, root) = match e {
+            Env::Dead => return Ok(Env::Dead),
+            Env::Live { clock, root } => (clock, root),
         };
         let next = clock.add(Interval::new(1, 1));
         Ok(env_at(next.meet(self.frame.clock()), *root))

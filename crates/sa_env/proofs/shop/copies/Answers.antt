@@ -1,7 +1,8 @@
-use Rattle.std.proofs.Common.{◌≡◌, ◌∙◌, ◌++◌, [], ◌∷◌, List, sym, ap, refl, length, take, arith}
+use Rattle.std.proofs.Common.{◌≡◌, ◌∙◌, ◌++◌, [], ◌∷◌, List, sym, ap, refl, length, take, arith, ◌≤◌}
 use Rattle.std.proofs.lemmas.List.{take_all}
 use Rattle.sa_shared.specs.Forest.{list_of}
 use Rattle.sa_env.specs.declared.slot.SlotValue.{SlotValue}
+use Rattle.sa_shared.proofs.Unfolding.{size}
 use Rattle.sa_env.proofs.Lists.{take_get}
 use Rattle.sa_env.proofs.shop.copies.Goals as goal
 
@@ -14,4 +15,8 @@ loop-slot-preserved c =
     ∙ sym (take_get xs c.loop-slot.slot c.get.result.now c.get.ensures)
 
 pub returns : goal.returns
-returns c = ?
+returns c =
+    let xs = list_of c.args.layer.now c.args.root in
+    let n : length xs ≡ c.args.layer.now.slots = size _ _ c.requires.balanced in
+    let m = c.slots-slot-end.ensures in
+    c.loop-slot.invariant ∙ take_all c.loop-slot.slot xs (omega (arith, n, m))
