@@ -2,6 +2,7 @@
 use Rattle.std.proofs.Common.{◌≡◌, ℕ, zero, suc, ◌+◌, ◌<◌, ◌≤◌, Bool, true, false, List, [], ◌∷◌, ◌++◌, length, take, drop, map, get_or, set, refl, sym, ap, ◌∙◌, subst, arith, add-one}
 use Rattle.std.specs.Prelude.{Option, None, Some, unwrap_or, slice_get, option_map, if◌then◌else◌, ℤ}
 use Rattle.std.specs.List.{All}
+use Rattle.std.proofs.Common.{Result, Ok, Err, IfOk}
 use Rattle.std.proofs.lemmas.List.{length-map, map-set}
 use Rattle.std.proofs.lemmas.List.Elements.{length_all_zip}
 use Rattle.sa_interval.specs.Span.{Span, IsPart}
@@ -49,3 +50,7 @@ take_suc_get (y ∷ xs) (suc k) x e = ap (λ (l : List SlotValue). y ∷ l) (tak
 
 pub take_get : (xs : List SlotValue) (k : ℕ) (x : SlotValue) → slice_get xs k ≡ Some x → take (k + 1) xs ≡ take k xs ++ x ∷ []
 take_get xs k x e = ap (λ (n : ℕ). take n xs) (add-one k) ∙ take_suc_get xs k x e
+
+pub if_ok : {A E : Type 0} (P Q : A → Type 0) (r : Result A E) → ((x : A) → P x → Q x) → IfOk r P → IfOk r Q
+if_ok P Q (Ok x) f h = f x h
+if_ok P Q (Err e) f h = tt

@@ -392,9 +392,11 @@ fn roots_of(alloc: Global, envs: &[Env]) -> Result<Vec<Root>, OutOfMemory>
 {
     let mut roots = Vec::new(alloc);
     for env in envs {
-        if let Env::Live { root, .. } = env {
-            roots.push(*root)?;
-        }
+        let root = match env {
+            Env::Dead => continue,
+            Env::Live { root, .. } => *root,
+        };
+        roots.push(root)?;
     }
     Ok(roots)
 }
@@ -407,16 +409,16 @@ fn with_roots(alloc: Global, envs: &[Env], roots: &[Root]) -> Result<Vec<Env>, O
     let mut made = Vec::with_capacity(alloc, envs.len())?;
     let mut next = 0;
     for env in envs {
-        match env {
-            Env::Dead => made.push(Env::Dead)?,
-            Env::Live { clock, .. } => {
-                made.push(Env::Live {
-                    clock: *clock,
-                    root: roots[next],
-                })?;
-                next += 1;
+        let clock = match env {
+            Env::Dead => {
+                made.push(Env::Dead)?;
+                continue;
             }
-        }
+            Env::Live { clock, .. } => *clock,
+        };
+        let root = roots[next];
+        made.push(Env::Live { clock, root })?;
+        next += 1;
     }
     Ok(made)
 }

@@ -28,7 +28,9 @@ pub returns-in_err-root-in-Live-Live-clause-older : goal.returns-in_err-root-in-
 returns-in_err-root-in-Live-Live-clause-older c = kept _ _ _ _ c.self.view_is c.in_err-root-in-Live-Live.ensures.older
 
 pub widened_clock-requires : goal.widened_clock-requires
-widened_clock-requires c = ?
+widened_clock-requires c = record {
+  old = subst (λ (t : Span). IsPart c.in-Live-Live.clock t) (sym c.clock.ensures.value) (given_in _ _ _ _ _ _ c.self.view_is c.in-Live-Live.is-0 c.requires.first).0.part;
+}
 
 pub returns-in-Dead-default-clause-value : goal.returns-in-Dead-default-clause-value
 returns-in-Dead-default-clause-value c =
@@ -39,11 +41,29 @@ returns-in_default-Dead-clause-value c =
     let g = live_given c.args.self.now c.args.a.now _ _ c.in_default-Dead.is-0 in
     g ∙ sym (of_two (spread c.args.self.now.limits c.args.thresholds.now c.args.pass) _ _ _ _ g (given_dead c.args.self.now c.args.b.now c.in_default-Dead.is-1))
 
+value : (c : goal.After-widened_clock) → flat_of (shop_over c.self.inside.frame.now c.combine.new.self) (Live c.widened_clock.result c.in_ok-root-in-Live-Live.root)
+    ≡ spread c.args.self.now.limits c.args.thresholds.now c.args.pass (flat_of c.args.self.now c.args.a.now) (flat_of c.args.self.now c.args.b.now)
+value c =
+    let l = c.self.inside.frame.now in
+    let ts = c.args.thresholds.now in
+    let xs = list_of c.self.inside.layer c.in-Live-Live.root in
+    let ys = list_of c.self.inside.layer c.in-Live-Live.other_root in
+    let t = c.in-Live-Live.clock in
+    let u = c.in-Live-Live.other_clock in
+    let n = named_length l c.self.inside.layer c.in-Live-Live.root c.self.invariant (root_given _ _ _ _ _ _ c.self.view_is c.in-Live-Live.is-0 c.requires.first) in
+    flat_live l c.combine.new.self c.widened_clock.result c.in_ok-root-in-Live-Live.root (combined (spread_at l.tops ts c.args.pass) 0 xs ys) (widened_spans ts c.args.pass l.tops (spans_of xs) (spans_of ys))
+        c.in_ok-root-in-Live-Live.ensures.list (spans_spread l.tops ts c.args.pass xs ys n)
+    ∙ ap (λ (w : Span). live w (widened_spans ts c.args.pass l.tops (spans_of xs) (spans_of ys))) (c.widened_clock.ensures ∙ ap (λ (w : Span). widened_clock w t u) c.clock.ensures.value)
+    ∙ ap (λ (s : Stock). spread s.limits ts c.args.pass (live t (spans_of xs)) (live u (spans_of ys))) c.self.view_is
+    ∙ sym (of_two (spread c.args.self.now.limits ts c.args.pass) _ _ _ _ (flat_given _ _ _ _ _ _ c.self.view_is c.in-Live-Live.is-0) (flat_given _ _ _ _ _ _ c.self.view_is c.in-Live-Live.is-1))
+
 pub returns-in_ok-root-in-Live-Live-clause-value : goal.returns-in_ok-root-in-Live-Live-clause-value
-returns-in_ok-root-in-Live-Live-clause-value c = ?
+returns-in_ok-root-in-Live-Live-clause-value c = value c
 
 pub returns-in_ok-root-in-Live-Live-clause-belongs : goal.returns-in_ok-root-in-Live-Live-clause-belongs
-returns-in_ok-root-in-Live-Live-clause-belongs c = ?
+returns-in_ok-root-in-Live-Live-clause-belongs c =
+    made_belongs _ _ _ _ _ _ _ c.self.view_is c.in_ok-root-in-Live-Live.ensures.root (value c)
+    (spread_fair c.args.self.now.limits c.args.thresholds.now c.args.pass (flat_of c.args.self.now c.args.a.now) (flat_of c.args.self.now c.args.b.now) c.requires.first.fair c.requires.second.fair)
 
 pub returns-in_ok-root-in-Live-Live-clause-older : goal.returns-in_ok-root-in-Live-Live-clause-older
 returns-in_ok-root-in-Live-Live-clause-older c = kept _ _ _ _ c.self.view_is c.in_ok-root-in-Live-Live.ensures.older
