@@ -1,4 +1,6 @@
 pub mod Fairness
+pub mod Freezing
+pub mod Hulls
 pub mod Lists
 pub mod Order
 pub mod Shops

@@ -45,11 +45,11 @@ is_before from to k h = grind (arith, nat_tests)
 is_behind : (from to k : ℕ) → to ≤ k → (nat_le from k && nat_lt k to) ≡ false
 is_behind from to k h = grind (arith, nat_tests)
 
-take_none : (n : ℕ) → take {A = Span} n [] ≡ []
+pub take_none : (n : ℕ) → take {A = Span} n [] ≡ []
 take_none zero = refl
 take_none (suc n) = refl
 
-drop_none : (n : ℕ) → drop {A = Span} n [] ≡ []
+pub drop_none : (n : ℕ) → drop {A = Span} n [] ≡ []
 drop_none zero = refl
 drop_none (suc n) = refl
 
