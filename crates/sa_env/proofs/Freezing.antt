@@ -84,3 +84,54 @@ frozen_belong l f g (Live t r ∷ es) (m ∷ ms) e k h =
     all_cons (Belongs (shop_over l g)) (Live t m) (with_roots es ms)
     (belongs_live l g t m (live t (spans_of (list_of f r))) (all_head (shared.Belongs Alike g) m ms k) (ap (λ (xs : List SlotValue). live t (spans_of xs)) p.0) b.fair)
     (frozen_belong l f g es ms p.1 (all_tail (shared.Belongs Alike g) m ms k) (all_tail (Belongs (shop_over l f)) (Live t r) es h))
+
+-- ---- the loops over the environments
+item_at : (es : List Env) (i : ℕ) (e x : Env) → i < length es → e ≡ get_or es i e → e ≡ x → drop i es ≡ x ∷ drop (i + 1) es
+item_at es i e x h is k = drop_more es i e h ∙ ap (λ (y : Env). y ∷ drop (i + 1) es) (sym is ∙ k)
+
+pub roots_dead : (es : List Env) (i : ℕ) (e : Env) (done : List Root) → i < length es → e ≡ get_or es i e → e ≡ Dead → done ++ roots_of (drop i es) ≡ roots_of es → done ++ roots_of (drop (i + 1) es) ≡ roots_of es
+unfolding roots_of
+roots_dead es i e done h is k v = ap (λ (xs : List Env). done ++ roots_of xs) (sym (item_at es i e Dead h is k)) ∙ v
+
+pub roots_live : (es : List Env) (i : ℕ) (e : Env) (t : Span) (r : Root) (done new : List Root) → i < length es → e ≡ get_or es i e → e ≡ Live t r → new ≡ done ++ r ∷ []
+    → done ++ roots_of (drop i es) ≡ roots_of es → new ++ roots_of (drop (i + 1) es) ≡ roots_of es
+unfolding roots_of
+roots_live es i e t r done new h is k n v =
+    let rest = roots_of (drop (i + 1) es) in
+    ap (λ (l : List Root). l ++ rest) n ∙ append_assoc done (r ∷ []) rest ∙ ap (λ (xs : List Env). done ++ roots_of xs) (sym (item_at es i e (Live t r) h is k)) ∙ v
+
+pub roots_end : (es : List Env) (i : ℕ) (done : List Root) → length es ≤ i → done ++ roots_of (drop i es) ≡ roots_of es → done ≡ roots_of es
+unfolding roots_of
+roots_end es i done h v = sym (append-nil done) ∙ ap (λ (xs : List Env). done ++ roots_of xs) (sym (drop_all i es h)) ∙ v
+
+pub made_dead : (es : List Env) (rs : List Root) (i n : ℕ) (e : Env) (done new : List Env) → i < length es → e ≡ get_or es i e → e ≡ Dead → new ≡ done ++ Dead ∷ []
+    → done ++ with_roots (drop i es) (drop n rs) ≡ with_roots es rs → new ++ with_roots (drop (i + 1) es) (drop n rs) ≡ with_roots es rs
+unfolding with_roots
+made_dead es rs i n e done new h is k m v =
+    let rest = with_roots (drop (i + 1) es) (drop n rs) in
+    ap (λ (l : List Env). l ++ rest) m ∙ append_assoc done (Dead ∷ []) rest ∙ ap (λ (xs : List Env). done ++ with_roots xs (drop n rs)) (sym (item_at es i e Dead h is k)) ∙ v
+
+pub made_live : (es : List Env) (rs : List Root) (i n : ℕ) (e : Env) (t : Span) (r q : Root) (done new : List Env) → i < length es → e ≡ get_or es i e → e ≡ Live t r
+    → n < length rs → q ≡ get_or rs n q → new ≡ done ++ Live t q ∷ []
+    → done ++ with_roots (drop i es) (drop n rs) ≡ with_roots es rs → new ++ with_roots (drop (i + 1) es) (drop (n + 1) rs) ≡ with_roots es rs
+unfolding with_roots
+made_live es rs i n e t r q done new h is k l at m v =
+    let rest = with_roots (drop (i + 1) es) (drop (n + 1) rs) in
+    let roots : drop n rs ≡ q ∷ drop (n + 1) rs = drop_more rs n q l ∙ ap (λ (x : Root). x ∷ drop (n + 1) rs) (sym at) in
+    ap (λ (l : List Env). l ++ rest) m ∙ append_assoc done (Live t q ∷ []) rest
+    ∙ ap (λ (xs : List Root). done ++ with_roots (Live t r ∷ drop (i + 1) es) xs) (sym roots)
+    ∙ ap (λ (xs : List Env). done ++ with_roots xs (drop n rs)) (sym (item_at es i e (Live t r) h is k)) ∙ v
+
+pub made_end : (es : List Env) (rs : List Root) (i n : ℕ) (done : List Env) → length es ≤ i → done ++ with_roots (drop i es) (drop n rs) ≡ with_roots es rs → done ≡ with_roots es rs
+unfolding with_roots
+made_end es rs i n done h v = sym (append-nil done) ∙ ap (λ (xs : List Env). done ++ with_roots xs (drop n rs)) (sym (drop_all i es h)) ∙ v
+
+pub left_dead : (es : List Env) (i n m : ℕ) (e : Env) → i < length es → e ≡ get_or es i e → e ≡ Dead → n + length (roots_of (drop i es)) ≡ m → n + length (roots_of (drop (i + 1) es)) ≡ m
+unfolding roots_of
+left_dead es i n m e h is k v = ap (λ (xs : List Env). n + length (roots_of xs)) (sym (item_at es i e Dead h is k)) ∙ v
+
+pub left_live : (es : List Env) (i n m : ℕ) (e : Env) (t : Span) (r : Root) → i < length es → e ≡ get_or es i e → e ≡ Live t r → n + length (roots_of (drop i es)) ≡ m → n + 1 + length (roots_of (drop (i + 1) es)) ≡ m
+unfolding roots_of
+left_live es i n m e t r h is k v =
+    let d : length (roots_of (drop i es)) ≡ suc (length (roots_of (drop (i + 1) es))) = ap (λ (xs : List Env). length (roots_of xs)) (item_at es i e (Live t r) h is k) in
+    omega (arith, d, v)
