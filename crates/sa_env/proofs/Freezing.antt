@@ -39,11 +39,11 @@ roots_belong s [] h = all_none (shared.Belongs Alike s.lists)
 roots_belong s (Dead ∷ es) h = roots_belong s es (all_tail (Belongs s) Dead es h)
 roots_belong s (Live t r ∷ es) h = all_cons (shared.Belongs Alike s.lists) r (roots_of es) (root_of_live s t r (all_head (Belongs s) (Live t r) es h)) (roots_belong s es (all_tail (Belongs s) (Live t r) es h))
 
-pub some_root : (es : List Env) → IsTrue (list_any is_live es) → 0 < length (roots_of es)
-unfolding roots_of
-some_root [] h = absurd cc
-some_root (Dead ∷ es) h = some_root es h
-some_root (Live t r ∷ es) h = omega arith
+pub some_root : (s : Stock) (es : List Env) → IsTrue (list_any (is_live s) es) → 0 < length (roots_of es)
+unfolding roots_of flat_of
+some_root s [] h = absurd cc
+some_root s (Dead ∷ es) h = some_root s es h
+some_root s (Live t r ∷ es) h = omega arith
 
 -- ---- the base
 pub frozen_base : (l : Limits) (f g : Forest SlotValue) (rs ms : List Root) → IsBase l f → All (shared.Belongs Alike f) rs → g.slots ≡ f.slots → map (list_of g) ms ≡ map (list_of f) rs

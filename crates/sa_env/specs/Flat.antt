@@ -12,6 +12,10 @@ pub data Flat : Type 0 where
   dead : Flat
   live : Span → List Span → Flat
 
+abbrev pub is_alive : Flat → Bool
+is_alive dead = false
+is_alive (live clock cells) = true
+
 -- what the environments of one analysis have in common: the range of each cell, by its type, and the last clock
 pub record Limits : Type 0 where
   pub tops : List Span

@@ -1,5 +1,5 @@
 -- What contracts see of a shop, and what its environments stand for.
-use Rattle.std.specs.Prelude.{◌≡◌, ◌≤◌, ◌^◌, ◌≤ℤ◌, ℕ, pos, negsuc, ◌-◌, Bool, true, false, List, [], ◌∷◌, length, map, Option, None, Some, ⊤}
+use Rattle.std.specs.Prelude.{◌≡◌, ◌≤◌, ◌^◌, ◌≤ℤ◌, ℕ, pos, negsuc, ◌-◌, Bool, List, [], ◌∷◌, length, map, Option, None, Some, ⊤}
 use Rattle.std.specs.List.{All}
 use Rattle.sa_interval.specs.Span.{Span}
 use Rattle.sa_shared.specs.declared.nodes.Root.{Root}
@@ -11,7 +11,7 @@ use Rattle.sa_env.specs.declared.slot.SlotValue.TheVariants.{Cell}
 use Rattle.sa_env.specs.declared.env.Env.{Env}
 use Rattle.sa_env.specs.declared.env.Env.TheVariants.{Dead, Live}
 use Rattle.sa_env.specs.Slots.{spans_of, Alike}
-use Rattle.sa_env.specs.Flat.{Flat, dead, live, Limits, IsFair}
+use Rattle.sa_env.specs.Flat.{Flat, dead, live, is_alive, Limits, IsFair}
 
 -- a range whose numbers are at most 2^64 in size
 pub record IsNarrow (s : Span) : Type 0 where
@@ -43,9 +43,8 @@ abbrev pub env_at : Option Span → Root → Env
 env_at None root = Dead
 env_at (Some clock) root = Live clock root
 
-abbrev pub is_live : Env → Bool
-is_live Dead = false
-is_live (Live clock root) = true
+abbrev pub is_live : Stock → Env → Bool
+is_live s e = is_alive (flat_of s e)
 
 -- the roots of the live ones
 unfoldable pub roots_of : List Env → List Root

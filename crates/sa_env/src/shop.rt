@@ -346,7 +346,7 @@ impl<'a> Shop<'a> {
         envs: &[Env],
     ) -> Result<(Frozen<SlotValue>, Vec<Env>), OutOfMemory>
         requires belong { All (Belongs self.now) envs.now }
-        requires some { IsTrue (list_any is_live envs.now) }
+        requires some { IsTrue (list_any (is_live self.now) envs.now) }
         ensures base { IfOk result (λ made. IsBase self.now.limits made.0) }
         ensures belong { IfOk result (λ made. All (Belongs (shop_over self.now.limits made.0)) made.1.items) }
         ensures values { IfOk result (λ made. map (flat_of (shop_over self.now.limits made.0)) made.1.items ≡ map (flat_of self.now) envs.now) }

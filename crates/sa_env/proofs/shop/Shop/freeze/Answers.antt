@@ -14,7 +14,7 @@ use Rattle.sa_env.proofs.shop.Shop.freeze.Goals as goal
 
 pub compact-requires-clause-some : goal.compact-requires-clause-some
 compact-requires-clause-some c =
-    subst (λ (rs : List Root). 0 < length rs) (sym (c.deref.ensures.value ∙ c.in_ok-roots.ensures)) (some_root c.args.envs.now c.requires.some)
+    subst (λ (rs : List Root). 0 < length rs) (sym (c.deref.ensures.value ∙ c.in_ok-roots.ensures)) (some_root c.args.self.now c.args.envs.now c.requires.some)
 
 all_belong : (c : goal.After-deref) → All (Belongs (shop_over c.self.inside.frame.now c.self.inside.layer)) c.args.envs.now
 all_belong c = subst (λ (s : Stock). All (Belongs s) c.args.envs.now) (sym c.self.view_is) c.requires.belong
