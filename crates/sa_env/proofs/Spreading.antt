@@ -13,7 +13,8 @@ use Rattle.sa_env.specs.declared.slot.SlotValue.TheVariants.{Cell}
 use Rattle.sa_env.specs.SlotLaws.{same_ends}
 use Rattle.sa_env.specs.Slots.{span_of, spans_of, fallen, risen, spread_to, widened_span, slot_spread}
 use Rattle.sa_env.specs.Walks.{AreUnder, spread_at}
-use Rattle.sa_env.specs.Flat.{IsIn, widened_spans}
+use Rattle.std.proofs.lemmas.Bool.Decides.{nat_tests}
+use Rattle.sa_env.specs.Flat.{Flat, Limits, IsIn, widened_spans, join, spread, top_of, widened}
 use Rattle.sa_env.proofs.Order.{part_test}
 
 -- what is inside moves no bound
@@ -83,3 +84,22 @@ are_under tops xs ys h g k x y e f =
     let a = in_at tops xs k x (span_of x) h e in
     let b = in_at tops ys k y (span_of x) g f in
     record { inside = a.0; old = a.1.part; new = b.1.part }
+
+-- ---- by the pass
+pub early : (l : Limits) (thresholds : List ℤ) (pass : ℕ) (a b : Flat) → pass ≤ 3 → join a b ≡ widened l thresholds pass a b
+unfolding widened
+early l thresholds pass a b h = let e : nat_le pass 3 ≡ true = grind (arith, nat_tests) in rw e refl
+
+pub between : (l : Limits) (thresholds : List ℤ) (pass : ℕ) (a b : Flat) → 3 < pass → pass ≤ 30 → spread l thresholds pass a b ≡ widened l thresholds pass a b
+unfolding widened
+between l thresholds pass a b h k =
+    let e : nat_le pass 3 ≡ false = grind (arith, nat_tests) in
+    let f : nat_le pass 30 ≡ true = grind (arith, nat_tests) in
+    rw (e, f) refl
+
+pub late : (l : Limits) (thresholds : List ℤ) (pass : ℕ) (a b : Flat) → 30 < pass → top_of l ≡ widened l thresholds pass a b
+unfolding widened
+late l thresholds pass a b h =
+    let e : nat_le pass 3 ≡ false = grind (arith, nat_tests) in
+    let f : nat_le pass 30 ≡ false = grind (arith, nat_tests) in
+    rw (e, f) refl
