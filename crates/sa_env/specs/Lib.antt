@@ -1,0 +1,7 @@
+pub mod Flat
+pub mod Laws
+pub mod Shop
+pub mod SlotLaws
+pub mod Slots
+pub mod WalkLaws
+pub mod Walks
