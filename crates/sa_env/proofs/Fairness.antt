@@ -67,6 +67,7 @@ meet_in a b t e = go (int_le (int_max a.lo b.lo) (int_min a.hi b.hi)) refl e
   where
     met : Span
     met = record { lo = int_max a.lo b.lo; hi = int_min a.hi b.hi }
+
     go : (q : Bool) → int_le (int_max a.lo b.lo) (int_min a.hi b.hi) ≡ q → (if q then Some met else None) ≡ Some t → IsIn b t
     go true g e = subst (λ (s : Span). IsIn b s) (some_is met t e) (record {
       ordered = grind (arith, ints);
@@ -102,16 +103,19 @@ pub widened_between : (thresholds : List ℤ) (pass : ℕ) (top old new : Span) 
 unfolding widened_span
 widened_between thresholds pass top old new p q =
     elim (nat_le pass 20) as (λ b. IsPart old (if b then widening_of thresholds old new top else spread_to top old new)
-        × IsPart new (if b then widening_of thresholds old new top else spread_to top old new)
-        × IsPart (if b then widening_of thresholds old new top else spread_to top old new) top)
-    [ true ↦ (let b = widening_between thresholds old new top p q in (b.holds_old, b.holds_new, b.inside))
-    | false ↦ spread_between top old new p q ]
+    × IsPart new (if b then widening_of thresholds old new top else spread_to top old new)
+    × IsPart (if b then widening_of thresholds old new top else spread_to top old new) top) [
+      | true ↦ (let b = widening_between thresholds old new top p q in (b.holds_old, b.holds_new, b.inside))
+      | false ↦ spread_between top old new p q
+    ]
 
 pub clock_between : (whole old new : Span) → IsPart old whole → IsPart new whole → IsPart old (widened_clock whole old new) × IsPart new (widened_clock whole old new) × IsPart (widened_clock whole old new) whole
 clock_between whole old new p q =
-    let h = risen_holds whole.hi old.hi new.hi p.below q.below in
-    (record { above = omega (arith, ints, clamps); below = h.1 }, record { above = omega (arith, ints, clamps); below = h.2 },
-     record { above = omega (arith, ints, clamps, p.above, q.above); below = h.0 })
+    let h = risen_holds whole.hi old.hi new.hi p.below q.below in (
+      record { above = omega (arith, ints, clamps); below = h.1 },
+      record { above = omega (arith, ints, clamps); below = h.2 },
+      record { above = omega (arith, ints, clamps, p.above, q.above); below = h.0 },
+    )
 
 -- what lies between a span and its range is a span in the range
 between_in : (top old r : Span) → IsIn top old → IsPart old r → IsPart r top → IsIn top r
@@ -136,8 +140,10 @@ spread_fair l thresholds pass (live t xs) (live u ys) h k =
 pub widened_fair : (l : Limits) → AreLimits l → (thresholds : List ℤ) (pass : ℕ) (a b : Flat) → IsFair l a → IsFair l b → IsFair l (widened l thresholds pass a b)
 unfolding widened
 widened_fair l m thresholds pass a b h k =
-    elim (nat_le pass 3) as (λ q. IsFair l (if q then join a b else (if nat_le pass 30 then spread l thresholds pass a b else top_of l)))
-    [ true ↦ join_fair l a b h k
-    | false ↦ elim (nat_le pass 30) as (λ q. IsFair l (if q then spread l thresholds pass a b else top_of l))
-        [ true ↦ spread_fair l thresholds pass a b h k
-        | false ↦ top_fair l m ] ]
+    elim (nat_le pass 3) as (λ q. IsFair l (if q then join a b else (if nat_le pass 30 then spread l thresholds pass a b else top_of l))) [
+      | true ↦ join_fair l a b h k
+      | false ↦ elim (nat_le pass 30) as (λ q. IsFair l (if q then spread l thresholds pass a b else top_of l)) [
+        | true ↦ spread_fair l thresholds pass a b h k
+        | false ↦ top_fair l m
+      ]
+    ]

@@ -149,12 +149,14 @@ parts_test [] [] = ((λ h. tt), (λ h. refl))
 parts_test [] (y ∷ ys) = ((λ h. absurd cc), (λ h. absurd h))
 parts_test (x ∷ xs) [] = ((λ h. absurd cc), (λ h. absurd h))
 parts_test (x ∷ xs) (y ∷ ys) = (
-    (λ h. let b = both_true (is_part x y) (all_parts xs ys) h in ((part_test x y).0 b.0, (parts_test xs ys).0 b.1)),
-    (λ h. true_both (is_part x y) (all_parts xs ys) ((part_test x y).1 h.0) ((parts_test xs ys).1 h.1)))
+  (λ h. let b = both_true (is_part x y) (all_parts xs ys) h in ((part_test x y).0 b.0, (parts_test xs ys).0 b.1)),
+  (λ h. true_both (is_part x y) (all_parts xs ys) ((part_test x y).1 h.0) ((parts_test xs ys).1 h.1)),
+)
 
 pub below_test : (a b : Flat) → (is_below a b ≡ true → IsBelow a b) × (IsBelow a b → is_below a b ≡ true)
 below_test dead b = ((λ h. tt), (λ h. refl))
 below_test (live t xs) dead = ((λ h. absurd cc), (λ h. absurd h))
 below_test (live t xs) (live u ys) = (
-    (λ h. let b = both_true (is_part t u) (all_parts xs ys) h in ((part_test t u).0 b.0, (parts_test xs ys).0 b.1)),
-    (λ h. true_both (is_part t u) (all_parts xs ys) ((part_test t u).1 h.0) ((parts_test xs ys).1 h.1)))
+  (λ h. let b = both_true (is_part t u) (all_parts xs ys) h in ((part_test t u).0 b.0, (parts_test xs ys).0 b.1)),
+  (λ h. true_both (is_part t u) (all_parts xs ys) ((part_test t u).1 h.0) ((parts_test xs ys).1 h.1)),
+)

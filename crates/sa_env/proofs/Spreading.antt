@@ -27,12 +27,14 @@ high_stays thresholds old new end h = grind (arith, ints)
 stays : (thresholds : List ℤ) (pass : ℕ) (top old new : Span) → IsPart new old → widened_span thresholds pass top old new ≡ old
 unfolding widened_span
 stays thresholds pass top old new p =
-    elim (nat_le pass 20) as (λ b. (if b then widening_of thresholds old new top else spread_to top old new) ≡ old)
-    [ true ↦ same_ends (widening_of thresholds old new top) old (low_stays thresholds old.lo new.lo top.lo p.above) (high_stays thresholds old.hi new.hi top.hi p.below)
-    | false ↦ same_ends (spread_to top old new) old (low_kept top.lo old.lo new.lo p.above) (high_kept top.hi old.hi new.hi p.below) ]
+    elim (nat_le pass 20) as (λ b. (if b then widening_of thresholds old new top else spread_to top old new) ≡ old) [
+      | true ↦ same_ends (widening_of thresholds old new top) old (low_stays thresholds old.lo new.lo top.lo p.above) (high_stays thresholds old.hi new.hi top.hi p.below)
+      | false ↦ same_ends (spread_to top old new) old (low_kept top.lo old.lo new.lo p.above) (high_kept top.hi old.hi new.hi p.below)
+    ]
   where
     low_kept : (least old new : ℤ) → old ≤ℤ new → fallen least old new ≡ old
     low_kept least old new h = grind (arith, ints)
+
     high_kept : (most old new : ℤ) → new ≤ℤ old → risen most old new ≡ old
     high_kept most old new h = grind (arith, ints)
 

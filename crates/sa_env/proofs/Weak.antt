@@ -100,6 +100,8 @@ each_in v from to k (t ∷ tops) (x ∷ xs) p h = (go (nat_le from k && nat_lt k
 
 pub weakly_fair : (l : Limits) (first count : ℕ) (v : Span) (e : Flat) → ((k : ℕ) → first ≤ k → k < first + count → IsPart v (get_or l.tops k v)) → IsFair l e → IsFair l (weakly_assigned first count v e)
 weakly_fair l first count v dead p h = tt
-weakly_fair l first count v (live t xs) p h =
-    (h.0, subst (λ (ys : List Span). EachSlot IsIn l.tops ys) (weak_is v first count xs)
-        (each_in v first (first + count) 0 l.tops xs (λ j a b. p j (omega arith) (omega arith)) h.1))
+weakly_fair l first count v (live t xs) p h = (
+  h.0,
+  subst (λ (ys : List Span). EachSlot IsIn l.tops ys) (weak_is v first count xs)
+      (each_in v first (first + count) 0 l.tops xs (λ j a b. p j (omega arith) (omega arith)) h.1),
+)

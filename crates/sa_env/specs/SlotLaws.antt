@@ -51,21 +51,30 @@ slot_laws = record {
   where
     like_back : (x y : SlotValue) → Alike x y → Alike y x
     like_back (Cell a) (Cell b) h = tt
+
     like_on : (x y z : SlotValue) → Alike x y → Alike y z → Alike x z
     like_on (Cell a) (Cell b) (Cell c) h k = tt
+
     below_self : (x : SlotValue) → Alike x x → SlotBelow x x
     below_self (Cell a) h = part_self a
+
     below_on : (x y z : SlotValue) → Alike x y → Alike y z → SlotBelow x y → SlotBelow y z → SlotBelow x z
     below_on (Cell a) (Cell b) (Cell c) h k p q = part_on a b c p q
+
     below_both : (x y : SlotValue) → Alike x y → SlotBelow x y → SlotBelow y x → x ≡ y
     below_both (Cell a) (Cell b) h p q = ap Cell (both_parts a b p q)
+
     join_like : (x y : SlotValue) → Alike x y → Alike x (slot_join x y)
     join_like (Cell a) (Cell b) h = tt
+
     first : (x y : SlotValue) → Alike x y → SlotBelow x (slot_join x y)
     first (Cell a) (Cell b) h = join_first a b
+
     second : (x y : SlotValue) → Alike x y → SlotBelow y (slot_join x y)
     second (Cell a) (Cell b) h = join_second a b
+
     least : (x y z : SlotValue) → Alike x y → Alike x z → SlotBelow x z → SlotBelow y z → SlotBelow (slot_join x y) z
     least (Cell a) (Cell b) (Cell c) h k p q = join_least a b c p q
+
     same : (x : SlotValue) → Alike x x → slot_join x x ≡ x
     same (Cell a) h = ap Cell (join_part a a (part_self a))

@@ -8,9 +8,9 @@
 //! fair: the clock is one that may be, and each cell's numbers are in its range.
 #![tactic(auto)]
 
+mod bounds;
 mod env;
 mod frame;
-mod bounds;
 mod laws;
 mod shop;
 mod slot;

@@ -260,13 +260,7 @@ impl<'a> Shop<'a> {
     /// What pass `pass` of a loop makes of the iterate `a` before it and of `b`: up to 3 the join, up to 20 each bound
     /// that moves goes to the nearest threshold and up to 30 to that of the cell's range, a clock that rises to the
     /// last one, and then the top.
-    pub fn widen(
-        &mut self,
-        a: &Env,
-        b: &Env,
-        t: &Thresholds,
-        pass: u32,
-    ) -> Result<Env, OutOfMemory>
+    pub fn widen(&mut self, a: &Env, b: &Env, t: &Thresholds, pass: u32) -> Result<Env, OutOfMemory>
         requires first { Belongs self.old a.now }
         requires second { Belongs self.old b.now }
         ensures belongs { IfOk result (λ made. Belongs self.new made) }
@@ -341,10 +335,7 @@ impl<'a> Shop<'a> {
     }
 
     /// A frozen part with these environments alone, and the environments in it that equal them, in the same order.
-    pub fn freeze(
-        &self,
-        envs: &[Env],
-    ) -> Result<(Frozen<SlotValue>, Vec<Env>), OutOfMemory>
+    pub fn freeze(&self, envs: &[Env]) -> Result<(Frozen<SlotValue>, Vec<Env>), OutOfMemory>
         requires belong { All (Belongs self.now) envs.now }
         requires some { IsTrue (list_any (is_live self.now) envs.now) }
         ensures base { IfOk result (λ made. IsBase self.now.limits made.0) }

@@ -104,7 +104,10 @@ fn goes_on_in_a_new_shop(rt: HostRuntime) -> Result<(), Fail> {
             assert_eq!(rt; rejoined(&frame, &base, c, v, w)?, Some(w));
             assert_eq!(rt;
                 weakened(&frame, &base, c, v, w)?,
-                [Some(byte(5, 9)), Some(if c == 0 { byte(5, 9) } else { byte(0, 255) })]
+                [
+                    Some(byte(5, 9)),
+                    Some(if c == 0 { byte(5, 9) } else { byte(0, 255) })
+                ]
             );
         }
     }
@@ -116,7 +119,15 @@ fn widens_by_the_pass(rt: HostRuntime) -> Result<(), Fail> {
     let frame = bytes(rt.alloc(), 3)?;
     let base = frame.base()?;
     let thresholds = Thresholds::make(rt.alloc(), &[100])?;
-    for (pass, hi) in [(1, 3), (3, 3), (4, 100), (20, 100), (21, 255), (30, 255), (31, 255)] {
+    for (pass, hi) in [
+        (1, 3),
+        (3, 3),
+        (4, 100),
+        (20, 100),
+        (21, 255),
+        (30, 255),
+        (31, 255),
+    ] {
         assert_eq!(rt;
             widened(&frame, &base, &thresholds, pass, byte(0, 1), byte(0, 3))?,
             Some(byte(0, hi))

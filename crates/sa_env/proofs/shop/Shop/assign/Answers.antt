@@ -32,7 +32,7 @@ value : (c : goal.After-result-1) → flat_of (shop_over c.self.inside.frame.now
 value c =
     let xs = list_of c.self.inside.layer c.in-Live.root in
     flat_live c.self.inside.frame.now c.set.new.self c.in-Live.clock c.in_ok-root-in-Live.root (set xs c.args.c (Cell c.args.v)) (set (spans_of xs) c.args.c c.args.v)
-        (c.in_ok-root-in-Live.ensures.list ∙ ap (set xs c.args.c) c.cell.ensures.value) (map-set span_of xs c.args.c (Cell c.args.v))
+    (c.in_ok-root-in-Live.ensures.list ∙ ap (set xs c.args.c) c.cell.ensures.value) (map-set span_of xs c.args.c (Cell c.args.v))
     ∙ sym (ap (assigned c.args.c c.args.v) (flat_given _ _ _ _ _ _ c.self.view_is c.in-Live.is))
 
 pub returns-in_ok-root-in-Live-clause-value : goal.returns-in_ok-root-in-Live-clause-value

@@ -26,7 +26,7 @@ value c =
     let first = c.args.first in
     let count = c.args.count in
     flat_live c.self.inside.frame.now c.change.new.self c.in-Live.clock c.in_ok-root-in-Live.root (changed (in_range first (first + count) (λ n x. slot_weakened v x)) 0 xs) (weakened first count v (spans_of xs))
-        (c.in_ok-root-in-Live.ensures.list ∙ ap (λ (n : ℕ). changed (in_range first n (λ n x. slot_weakened v x)) 0 xs) c.end-end.ensures) (spans_weakened v first count xs)
+    (c.in_ok-root-in-Live.ensures.list ∙ ap (λ (n : ℕ). changed (in_range first n (λ n x. slot_weakened v x)) 0 xs) c.end-end.ensures) (spans_weakened v first count xs)
     ∙ sym (ap (weakly_assigned first count v) (flat_given _ _ _ _ _ _ c.self.view_is c.in-Live.is))
 
 pub returns-in_ok-root-in-Live-clause-value : goal.returns-in_ok-root-in-Live-clause-value

@@ -52,7 +52,7 @@ value c =
     let u = c.in-Live-Live.other_clock in
     let n = named_length l c.self.inside.layer c.in-Live-Live.root c.self.invariant (root_given _ _ _ _ _ _ c.self.view_is c.in-Live-Live.is-0 c.requires.first) in
     flat_live l c.combine.new.self c.widened_clock.result c.in_ok-root-in-Live-Live.root (combined (spread_at l.tops ts c.args.pass) 0 xs ys) (widened_spans ts c.args.pass l.tops (spans_of xs) (spans_of ys))
-        c.in_ok-root-in-Live-Live.ensures.list (spans_spread l.tops ts c.args.pass xs ys n)
+    c.in_ok-root-in-Live-Live.ensures.list (spans_spread l.tops ts c.args.pass xs ys n)
     ∙ ap (λ (w : Span). live w (widened_spans ts c.args.pass l.tops (spans_of xs) (spans_of ys))) (c.widened_clock.ensures ∙ ap (λ (w : Span). widened_clock w t u) c.clock.ensures.value)
     ∙ ap (λ (s : Stock). spread s.limits ts c.args.pass (live t (spans_of xs)) (live u (spans_of ys))) c.self.view_is
     ∙ sym (of_two (spread c.args.self.now.limits ts c.args.pass) _ _ _ _ (flat_given _ _ _ _ _ _ c.self.view_is c.in-Live-Live.is-0) (flat_given _ _ _ _ _ _ c.self.view_is c.in-Live-Live.is-1))
