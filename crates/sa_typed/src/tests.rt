@@ -503,6 +503,28 @@ fn terms(alloc: Global, first: bool, second: bool) -> Result<Items<Expr>, OutOfM
     Ok(Items::from_vec(terms))
 }
 
+/// Whether `a && b && c` is constant.
+fn is_and_constant(alloc: Global, a: bool, b: bool, c: bool) -> Result<bool, OutOfMemory> {
+    let rest = terms(alloc, b, c)?;
+    let first = Boxed::new(alloc, term(a))?;
+    Ok(is_constant(&Expr::And(first, rest)))
+}
+
+/// Whether `a || b || c` is constant.
+fn is_or_constant(alloc: Global, a: bool, b: bool, c: bool) -> Result<bool, OutOfMemory> {
+    let rest = terms(alloc, b, c)?;
+    let first = Boxed::new(alloc, term(a))?;
+    Ok(is_constant(&Expr::Or(first, rest)))
+}
+
+/// Whether `a ? b : c` is constant.
+fn is_choice_constant(alloc: Global, a: bool, b: bool, c: bool) -> Result<bool, OutOfMemory> {
+    let condition = Boxed::new(alloc, term(a))?;
+    let first = Boxed::new(alloc, term(b))?;
+    let second = Boxed::new(alloc, term(c))?;
+    Ok(is_constant(&Expr::Choice(condition, first, second, Num::I32)))
+}
+
 #[test]
 fn constant_parts(rt: HostRuntime) -> Result<(), Fail> {
     let alloc = rt.alloc();
@@ -513,14 +535,13 @@ fn constant_parts(rt: HostRuntime) -> Result<(), Fail> {
         (true, true, false),
     ] {
         let want = a && b && c;
-        let and = Expr::And(Boxed::new(alloc, term(a))?, terms(alloc, b, c)?);
-        assert_eq!(rt; is_constant(&and), want, "{a} && {b} && {c}");
-        let or = Expr::Or(Boxed::new(alloc, term(a))?, terms(alloc, b, c)?);
-        assert_eq!(rt; is_constant(&or), want, "{a} || {b} || {c}");
-        let first = Boxed::new(alloc, term(b))?;
-        let second = Boxed::new(alloc, term(c))?;
-        let choice = Expr::Choice(Boxed::new(alloc, term(a))?, first, second, Num::I32);
-        assert_eq!(rt; is_constant(&choice), want, "{a} ? {b} : {c}");
+        assert_eq!(rt; is_and_constant(alloc, a, b, c)?, want, "{a} && {b} && {c}");
+        assert_eq!(rt; is_or_constant(alloc, a, b, c)?, want, "{a} || {b} || {c}");
+        assert_eq!(rt;
+            is_choice_constant(alloc, a, b, c)?,
+            want,
+            "{a} ? {b} : {c}"
+        );
     }
     Ok(())
 }
