@@ -1,6 +1,7 @@
 pub mod Fairness
 pub mod Freezing
 pub mod Hulls
+pub mod Imposing
 pub mod Lists
 pub mod Order
 pub mod Shops

@@ -1,4 +1,5 @@
 pub mod Flat
+pub mod Forms
 pub mod Laws
 pub mod Shop
 pub mod SlotLaws

@@ -10,6 +10,7 @@
 
 mod bounds;
 mod env;
+mod form;
 mod frame;
 mod laws;
 mod shop;
@@ -19,6 +20,7 @@ mod tests;
 mod walks;
 
 pub use env::Env;
+pub use form::{Form, Term};
 pub use frame::Frame;
 pub use laws::{environments_are_ordered, environments_stay_fair};
 pub use shop::Shop;

@@ -5,7 +5,7 @@ ghost use Rattle.sa_interval.specs.Span.{Span, IsPart};
 ghost use Rattle.sa_env.specs.Flat.{top_of, join, assigned, cell_of};
 ghost use Rattle.sa_env.specs.Shop.{IsBase};
 
-use crate::{Frame, OutOfMemory, Shop, SlotValue};
+use crate::{Form, Frame, OutOfMemory, Shop, SlotValue, Term};
 use sa_interval::{Interval, Thresholds};
 use sa_shared::Frozen;
 use std::alloc::Global;
@@ -92,6 +92,118 @@ fn widened(
     let new = shop.assign(&top, 0, w)?;
     let next = shop.widen(&old, &new, thresholds, pass)?;
     Ok(shop.cell(&next, 0))
+}
+
+/// The first two cells where a form of the first one is at most `k`.
+fn one_bounded(
+    frame: &Frame,
+    base: &Frozen<SlotValue>,
+    plus: bool,
+    c: i32,
+    k: i32,
+) -> Result<(Option<Interval>, Option<Interval>), OutOfMemory>
+    requires base { IsBase frame.now base.now }
+    requires cells { 1 < length frame.now.tops }
+{
+    let mut shop = Shop::over(frame, base);
+    let top = shop.top()?;
+    let form = Form {
+        first: Some(Term { plus, cell: 0 }),
+        second: None,
+        c: i128::from(c),
+    };
+    let bounded = shop.impose(&top, form, i128::from(k))?;
+    Ok((shop.cell(&bounded, 0), shop.cell(&bounded, 1)))
+}
+
+/// The first two cells where a form of both is at most `k`.
+fn both_bounded(
+    frame: &Frame,
+    base: &Frozen<SlotValue>,
+    signs: (bool, bool),
+    c: i32,
+    k: i32,
+) -> Result<(Option<Interval>, Option<Interval>), OutOfMemory>
+    requires base { IsBase frame.now base.now }
+    requires cells { 1 < length frame.now.tops }
+{
+    let mut shop = Shop::over(frame, base);
+    let top = shop.top()?;
+    let (first, second) = signs;
+    let form = Form {
+        first: Some(Term {
+            plus: first,
+            cell: 0,
+        }),
+        second: Some(Term {
+            plus: second,
+            cell: 1,
+        }),
+        c: i128::from(c),
+    };
+    let bounded = shop.impose(&top, form, i128::from(k))?;
+    Ok((shop.cell(&bounded, 0), shop.cell(&bounded, 1)))
+}
+
+#[test]
+fn forms_of_one_cell(rt: HostRuntime) -> Result<(), Fail> {
+    let frame = bytes(rt.alloc(), 2)?;
+    let base = frame.base()?;
+    for (plus, c, k, first, second) in [
+        (true, 0, 10, Some(byte(0, 10)), Some(byte(0, 255))),
+        (true, 3, 10, Some(byte(0, 7)), Some(byte(0, 255))),
+        (true, -3, 10, Some(byte(0, 13)), Some(byte(0, 255))),
+        (true, 0, 300, Some(byte(0, 255)), Some(byte(0, 255))),
+        (true, 0, -1, None, None),
+        (false, 0, -10, Some(byte(10, 255)), Some(byte(0, 255))),
+        (false, 5, -10, Some(byte(15, 255)), Some(byte(0, 255))),
+        (false, 0, -255, Some(byte(255, 255)), Some(byte(0, 255))),
+        (false, 0, -256, None, None),
+    ] {
+        assert_eq!(rt;
+            one_bounded(&frame, &base, plus, c, k)?,
+            (first, second),
+            "{plus} {c} {k}"
+        );
+    }
+    Ok(())
+}
+
+#[test]
+fn forms_of_two_cells(rt: HostRuntime) -> Result<(), Fail> {
+    let frame = bytes(rt.alloc(), 2)?;
+    let base = frame.base()?;
+    for (signs, c, k, first, second) in [
+        // x + y <= 10, and x + y + 4 <= 10
+        ((true, true), 0, 10, Some(byte(0, 10)), Some(byte(0, 10))),
+        ((true, true), 4, 10, Some(byte(0, 6)), Some(byte(0, 6))),
+        // x - y <= -1, that is x < y
+        ((true, false), 0, -1, Some(byte(0, 254)), Some(byte(1, 255))),
+        // y - x <= -200
+        (
+            (false, true),
+            0,
+            -200,
+            Some(byte(200, 255)),
+            Some(byte(0, 55)),
+        ),
+        // -x - y <= -500
+        (
+            (false, false),
+            0,
+            -500,
+            Some(byte(245, 255)),
+            Some(byte(245, 255)),
+        ),
+        ((false, false), 0, -511, None, None),
+    ] {
+        assert_eq!(rt;
+            both_bounded(&frame, &base, signs, c, k)?,
+            (first, second),
+            "{signs:?} {c} {k}"
+        );
+    }
+    Ok(())
 }
 
 #[test]
