@@ -4,7 +4,7 @@ ghost use Rattle.std.specs.Prelude.{◌≡◌, ◌<◌, ℕ, IfOk, Some, max, un
 ghost use Rattle.sa_shared.specs.Forest.{Belongs, Grows};
 ghost use Rattle.sa_shared.specs.Samples.{raised, widened, widened_laws};
 
-use super::{eight, list, sevens};
+use super::{eight, has, sevens};
 use crate::{Change, Combine, Fold, Layer, Root, Slot};
 use std::alloc::{AllocError, Global};
 use std::test::Fail;
@@ -89,12 +89,18 @@ impl Fold<u32> for Seen {
     }
 }
 
-/// The numbers from 10 to 17, with those of a range raised, and whether that made another list.
-fn raised(alloc: Global, from: u32, to: u32, least: u32) -> Result<(Vec<u32>, bool), AllocError> {
+/// Whether the numbers from 10 to 17, with those of a range raised, are these, and whether that made another list.
+fn raised(
+    alloc: Global,
+    from: u32,
+    to: u32,
+    least: u32,
+    values: &[u32],
+) -> Result<(bool, bool), AllocError> {
     let (base, root) = eight(alloc)?;
     let mut layer = Layer::over(&base);
     let made = layer.change(root, from, to, &Raise { least })?;
-    Ok((list(alloc, &layer, made)?, made != root))
+    Ok((has(&layer, made, values), made != root))
 }
 
 #[test]
@@ -111,9 +117,10 @@ fn changes_the_slots_of_a_range(rt: HostRuntime) -> Result<(), Fail> {
         (5, 8, 15, [10, 11, 12, 13, 14, 15, 16, 17], false),
     ];
     for (from, to, least, wanted, changed) in rows {
-        let (made, new) = raised(rt.alloc(), from, to, least)?;
-        assert_eq!(rt; made.as_slice(), wanted.as_slice());
-        assert_eq!(rt; new, changed);
+        assert_eq!(rt;
+            raised(rt.alloc(), from, to, least, wanted.as_slice())?,
+            (true, changed)
+        );
     }
     Ok(())
 }
@@ -148,39 +155,36 @@ fn folds_the_slots_of_a_range(rt: HostRuntime) -> Result<(), Fail> {
     Ok(())
 }
 
-/// The numbers from 10 to 17 widened by those with one slot set, and whether that made another list.
-fn widened(alloc: Global, slot: u32, value: u32, limit: u32) -> Result<(Vec<u32>, bool), AllocError>
+/// Whether the numbers from 10 to 17, widened to 99 by those with one slot set, are these, and whether that made another
+/// list.
+fn widened(alloc: Global, slot: u32, value: u32, values: &[u32]) -> Result<(bool, bool), AllocError>
     requires { slot < 8 }
 {
     let (base, root) = eight(alloc)?;
     let mut layer = Layer::over(&base);
     let other = layer.set(root, slot, value)?;
-    let made = layer.combine(root, other, &Widen { limit })?;
-    Ok((list(alloc, &layer, made)?, made != root))
+    let made = layer.combine(root, other, &Widen { limit: 99 })?;
+    Ok((has(&layer, made, values), made != root))
 }
 
 #[test]
 fn combines_two_lists(rt: HostRuntime) -> Result<(), Fail> {
     let alloc = rt.alloc();
-    let same = [10, 11, 12, 13, 14, 15, 16, 17];
-    let (first, new) = widened(alloc, 0, 11, 99)?;
-    assert_eq!(rt;
-        first.as_slice(),
-        [99, 11, 12, 13, 14, 15, 16, 17].as_slice()
-    );
-    assert!(rt; new);
-    let (last, new) = widened(alloc, 7, 18, 99)?;
-    assert_eq!(rt;
-        last.as_slice(),
-        [10, 11, 12, 13, 14, 15, 16, 99].as_slice()
-    );
-    assert!(rt; new);
-    let (lower, new) = widened(alloc, 3, 1, 99)?;
-    assert_eq!(rt; lower.as_slice(), same.as_slice());
-    assert!(rt; !new);
-    let (equal, new) = widened(alloc, 3, 13, 99)?;
-    assert_eq!(rt; equal.as_slice(), same.as_slice());
-    assert!(rt; !new);
+    for (slot, value, wanted, changed) in [
+        (0, 11, [99, 11, 12, 13, 14, 15, 16, 17], true),
+        (7, 18, [10, 11, 12, 13, 14, 15, 16, 99], true),
+        (3, 1, [10, 11, 12, 13, 14, 15, 16, 17], false),
+        (3, 13, [10, 11, 12, 13, 14, 15, 16, 17], false),
+    ] {
+        if slot < 8 {
+            assert_eq!(rt;
+                widened(alloc, slot, value, wanted.as_slice())?,
+                (true, changed)
+            );
+        } else {
+            assert!(rt; false);
+        }
+    }
     Ok(())
 }
 
@@ -204,14 +208,8 @@ fn puts_a_list(rt: HostRuntime) -> Result<(), Fail> {
         root,
         vec![in alloc; 20, 21, 22, 23, 24, 25, 26, 27]?,
     )?;
-    assert_eq!(rt;
-        list(alloc, &layer, made)?.as_slice(),
-        [20, 21, 22, 23, 24, 25, 26, 27].as_slice()
-    );
-    assert_eq!(rt;
-        list(alloc, &layer, root)?.as_slice(),
-        [10, 11, 12, 13, 14, 15, 16, 17].as_slice()
-    );
+    assert!(rt; has(&layer, made, &[20, 21, 22, 23, 24, 25, 26, 27]));
+    assert!(rt; has(&layer, root, &[10, 11, 12, 13, 14, 15, 16, 17]));
     Ok(())
 }
 
