@@ -10,6 +10,7 @@ ghost use Rattle.sa_transfer.specs.Lists.{HasTypedStep, HasTypedSteps, fixed_rea
 use crate::OutOfMemory;
 use crate::values::with_reach;
 use sa_cells::{Ground, named};
+use sa_interval::Interval;
 use sa_reference::Reach;
 use sa_typed::{Access, Program, Step, fixed_index};
 use sqlite_items::Items;
