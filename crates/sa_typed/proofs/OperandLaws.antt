@@ -4,7 +4,7 @@ use Rattle.std.specs.Prelude.{◌^◌, ◌-◌}
 use Rattle.sa_base.specs.declared.num.Num.{Num}
 use Rattle.sa_base.specs.declared.num.Num.TheVariants.{I8, U8, I16, U16, I32, U32, I64, U64}
 use Rattle.sa_base.specs.declared.pos.Pos.{Pos}
-use Rattle.sa_typed.specs.Arithmetic.{is_of, as_num, IsSmall, IsOperand, IsRight}
+use Rattle.sa_typed.specs.Arithmetic.{is_of, as_num, IsOperand, IsRight}
 use Rattle.sa_typed.specs.Links.{HasType}
 use Rattle.sa_typed.specs.WellTyped.{converts, right_converts, type_of, IsTypedExpr}
 use Rattle.sa_typed.specs.declared.expr.Expr.TheVariants as v

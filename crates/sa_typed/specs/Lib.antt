@@ -6,6 +6,8 @@ pub mod Cells
 pub mod Lines
 pub mod Constants
 pub mod WellTyped
+pub mod TypedExpressions
+pub mod TypedPrograms
 pub mod Links
 pub mod Progress
 pub mod Ranges
