@@ -9,7 +9,7 @@ use Rattle.sa_typed.specs.Arithmetic.{is_of, promoted}
 use Rattle.sa_typed.specs.Executions.{params_of}
 use Rattle.sa_typed.specs.Layouts.{Layout, leaf, row, fields, layout_of}
 use Rattle.sa_typed.specs.WellTyped.{type_of, IsLink, HasTypedItems}
-use Rattle.sa_typed.specs.TypedExpressions.{IsTypedExpression, IsTypedPlace, IsLeftSide, IsFixedPlace}
+use Rattle.sa_typed.specs.TypedExpressions.{IsExpression, IsPlace, IsLeftSide, IsFixedPlace}
 use Rattle.sa_typed.specs.declared.expr.Expr.{Expr}
 use Rattle.sa_typed.specs.declared.stmt.Arg.{Arg}
 use Rattle.sa_typed.specs.declared.stmt.Arg.TheVariants.{Value as ByValue, Object as ByReference}
@@ -51,14 +51,14 @@ pub record IsDeclared (p : Program) (f v : ℕ) : Type 0 where
 
 abbrev pub IsTypedBeginning : Program → ℕ → ℕ → Start → Type 0
 IsTypedBeginning p f v begins.Any = Unit {0}
-IsTypedBeginning p f v (begins.Value q a) = IsTypedExpression p f a × ((num : Num) × (layout_of p v ≡ leaf num))
+IsTypedBeginning p f v (begins.Value q a) = IsExpression p f a × ((num : Num) × (layout_of p v ≡ leaf num))
 IsTypedBeginning p f v begins.Items = Unit {0}
 
 abbrev pub IsSimple : Program → ℕ → Simple → Type 0
 IsSimple p f (Declare v s) = IsDeclared p f v × IsTypedBeginning p f v s
-IsSimple p f (Assign x num q a) = IsLeftSide p f (leaf num) x × IsTypedExpression p f a
-IsSimple p f (Compound x num op q work a) = IsLeftSide p f (leaf num) x × (IsTypedExpression p f a × IsLink op num work (type_of a))
-IsSimple p f (Copy k x q y) = (l : Layout) × ((IsLeftSide p f l x × IsFixedPlace p f x) × (IsTypedPlace p f l y × IsFixedPlace p f y))
+IsSimple p f (Assign x num q a) = IsLeftSide p f (leaf num) x × IsExpression p f a
+IsSimple p f (Compound x num op q work a) = IsLeftSide p f (leaf num) x × (IsExpression p f a × IsLink op num work (type_of a))
+IsSimple p f (Copy k x q y) = (l : Layout) × ((IsLeftSide p f l x × IsFixedPlace p f x) × (IsPlace p f l y × IsFixedPlace p f y))
 
 abbrev pub IsStep : Program → ℕ → Option Simple → Type 0
 IsStep p f None = Unit {0}
@@ -67,7 +67,7 @@ IsStep p f (Some s) = IsSimple p f s
 -- ---- calls (ISO C 6.5.2.2)
 -- an argument and its parameter: a value, or a place of the same kind that may change
 abbrev pub IsArgument : Program → ℕ → Param → Arg → Type 0
-IsArgument p f q (ByValue at a) = (q.reference ≡ false) × IsTypedExpression p f a
+IsArgument p f q (ByValue at a) = (q.reference ≡ false) × IsExpression p f a
 IsArgument p f q (ByReference x) = (q.reference ≡ true) × IsLeftSide p f (layout_of p q.var) x
 
 unfoldable pub AreArguments : Program → ℕ → List Param → List Arg → Type 0
@@ -103,8 +103,8 @@ pub record AreLabels (num : Num) (labels : List Label) : Type 0 where
 -- `while` and `for` may lack a condition, and only they have a step (ISO C 6.8.5)
 abbrev pub IsHead : Program → ℕ → LoopKind → Option Expr → Option Simple → Type 0
 IsHead p f kind.While None step = IsStep p f step
-IsHead p f kind.While (Some a) step = IsTypedExpression p f a × IsStep p f step
-IsHead p f kind.Do (Some a) None = IsTypedExpression p f a
+IsHead p f kind.While (Some a) step = IsExpression p f a × IsStep p f step
+IsHead p f kind.Do (Some a) None = IsExpression p f a
 IsHead p f _ _ _ = ⊥
 
 abbrev pub IsDeclaredLater : ℕ → Option Var → Type 0
@@ -120,12 +120,12 @@ unfoldable mutual
   IsStatement p f inside (Stmt.Block' n all) = AreStatements p f inside all
   IsStatement p f inside (Stmt.Call q g args dest) = IsCall p f (slice_get p.funcs g) args dest
   IsStatement p f inside (Stmt.If' a n (more_of-Stmt b end_of-Stmt) m (more_of-Stmt c end_of-Stmt) marked) =
-      IsTypedExpression p f a × (IsStatement p f inside b × IsStatement p f inside c)
+      IsExpression p f a × (IsStatement p f inside b × IsStatement p f inside c)
   IsStatement p f inside (Stmt.Switch' a num n groups marked) =
-      (IsTypedExpression p f a × (num ≡ promoted (type_of a))) × (AreLabels num (all_labels groups) × AreGroups p f groups)
+      (IsExpression p f a × (num ≡ promoted (type_of a))) × (AreLabels num (all_labels groups) × AreGroups p f groups)
   IsStatement p f inside (Stmt.Loop' q kind cond n (more_of-Stmt body end_of-Stmt) step) = IsHead p f kind cond step × IsStatement p f true body
-  IsStatement p f inside (Stmt.Known a) = IsTypedExpression p f a
-  IsStatement p f inside (Stmt.Assert q a) = IsTypedExpression p f a
+  IsStatement p f inside (Stmt.Known a) = IsExpression p f a
+  IsStatement p f inside (Stmt.Assert q a) = IsExpression p f a
   IsStatement p f inside Stmt.Break = IsTrue inside
   IsStatement p f inside _ = ⊥
 
@@ -145,7 +145,7 @@ IsEmpty (more_of-Stmt s rest) = ⊥
 
 -- a `return` with a value of the function's type (ISO C 6.8.6.4)
 abbrev pub IsReturn : Program → ℕ → Option Num → Stmt → Type 0
-IsReturn p f result (Stmt.Return q num a) = (result ≡ Some num) × IsTypedExpression p f a
+IsReturn p f result (Stmt.Return q num a) = (result ≡ Some num) × IsExpression p f a
 IsReturn p f result _ = ⊥
 
 -- the block of a function other than main: statements, and a `return` as the last one exactly where there is a result. That it
