@@ -8,6 +8,7 @@ pub mod Constants
 pub mod WellTyped
 pub mod TypedExpressions
 pub mod TypedPrograms
+pub mod Depth
 pub mod Links
 pub mod Progress
 pub mod Ranges
