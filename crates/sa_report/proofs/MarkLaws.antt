@@ -39,7 +39,7 @@ use Rattle.sa_typed.specs.declared.stmt.Stmt as statement
 use Rattle.sa_typed.specs.declared.stmt.Stmt.{Stmt, Row_of-Stmt, end_of-Stmt, more_of-Stmt, items-the_row-Stmt, items_hidden-the_row-Stmt-0, roll-out-Stmt}
 use Rattle.sa_typed.specs.declared.stmt.Stmt.TheVariants as stmt
 use Rattle.sa_typed.specs.declared.stmt.Stmt.TheVariants.{rolls-Block}
-use Rattle.sa_typed.proofs.LinkLaws.{prefix_typed, cast_typed, chain_typed}
+use Rattle.sa_typed.proofs.LinkLaws.{typed_still, prefix_typed, cast_typed, chain_typed}
 use Rattle.sa_iterate.specs.Analysis.{body_in, main_body}
 use Rattle.sa_iterate.proofs.TypedForms.{clock_is}
 use Rattle.sa_reference.specs.declared.reach.Reach.{Reach}
@@ -222,7 +222,7 @@ unfolding IsTypedExpr Rattle.sa_typed.specs.declared.expr.Expr.TheBlock.hidden-t
 index_typed p q n a t = t
 
 pub index_has : (s : Step) (q : Pos) (n : ℕ) (a : Expr) → s ≡ step.At q n a → IsSomeStep s → HasType a
-index_has s q n a is h = record { program = h.program; typed = index_typed h.program q n a (subst (IsTypedStep h.program) is h.typed) }
+index_has s q n a is h = record { program = h.program; typed = typed_still h.program a (index_typed h.program q n a (subst (IsTypedStep h.program) is h.typed)) }
 
 pub ruleset of_steps = (step_at, step_field, index_has)
 

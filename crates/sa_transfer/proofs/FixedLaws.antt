@@ -19,6 +19,7 @@ use Rattle.sa_reference.specs.declared.reach.Reach.{Reach}
 use Rattle.sa_reference.specs.declared.reach.Reach.TheVariants.{At, Into}
 use Rattle.sa_reference.specs.Passes.{alive_then}
 use Rattle.sa_reference.specs.Values.{named, fixed_reach, fixed_reaches, fixed_cells, fixed_access_cells}
+use Rattle.sa_typed.proofs.LinkLaws.{typed_still}
 use Rattle.sa_transfer.specs.Lists.{HasTypedStep, fixed_reached, with_reach, then_reached}
 use Rattle.sa_transfer.proofs.FormLaws.{index_typed}
 use Rattle.sa_transfer.proofs.ListLaws.{then_with, reached_last}
@@ -36,7 +37,7 @@ unfolding fixed_reach
 fixed_field f = refl
 
 pub index_has : (s : Step) (q : Pos) (n : ℕ) (a : Expr) → s ≡ step.At q n a → HasTypedStep s → HasType a
-index_has s q n a is h = record { program = h.program; typed = index_typed h.program q n a (subst (IsTypedStep h.program) is h.typed) }
+index_has s q n a is h = record { program = h.program; typed = typed_still h.program a (index_typed h.program q n a (subst (IsTypedStep h.program) is h.typed)) }
 
 pub steps_have : (p : Program) (ss : List Step) → All (IsTypedStep p) ss → All HasTypedStep ss
 steps_have p ss h = λ k d l. record { program = p; typed = h k d l }

@@ -1,12 +1,12 @@
 -- Calls, branches and loops of a few lines, computed: what stands at one place at each visit, and the end.
-use Rattle.std.proofs.Common.{◌≡◌, ℕ, ℤ, pos, List, [], ◌∷◌, ◌++◌, refl, Option, None, Some, true, false}
+use Rattle.std.proofs.Common.{◌≡◌, ℕ, pos, List, [], ◌∷◌, refl, Option, None, Some, true, false}
 use Rattle.sa_base.specs.declared.alarm.Kind.TheVariants.{Division, Assert}
 use Rattle.sa_base.specs.declared.num.Num.{Num}
 use Rattle.sa_base.specs.declared.num.Num.TheVariants.{I32}
 use Rattle.sa_typed.specs.Arithmetic.{operate, as_num, in_type, divided}
-use Rattle.sa_typed.specs.Layouts.{rows, layout_with, layout_of, index_of, nums}
-use Rattle.sa_typed.specs.Evaluation.{Error, Clock, Blocked, Tape, Going, eval, steps_value, step_value, links_value, read_place}
-use Rattle.sa_typed.specs.Executions.{same_parts, declare_value, simple_value, turns, run, bodies_of, all_bound, has_case, has_default, is_listed, execution}
+use Rattle.sa_typed.specs.Layouts.{rows, layout_with, layout_of, index_of}
+use Rattle.sa_typed.specs.Evaluation.{Error, Clock, eval, steps_value, read_place}
+use Rattle.sa_typed.specs.Executions.{same_parts, simple_value, turns, run, bodies_of, all_bound, has_case, has_default, is_listed, execution}
 use Rattle.sa_typed.specs.declared.expr.Access.{Access}
 use Rattle.sa_typed.specs.declared.expr.Expr.{Expr}
 use Rattle.sa_typed.specs.declared.expr.Expr.TheVariants as e
@@ -25,8 +25,7 @@ use Rattle.sa_typed.specs.declared.stmt.Arg.TheVariants.{Value as ByValue, Objec
 use Rattle.sa_typed.specs.declared.stmt.Destination.{Destination}
 use Rattle.sa_typed.specs.declared.stmt.Label.TheVariants.{Case, Default}
 use Rattle.sa_typed.specs.declared.stmt.LoopKind.TheVariants as kind
-use Rattle.sa_typed.specs.declared.stmt.Simple.TheVariants.{Declare, Assign}
-use Rattle.sa_typed.specs.declared.stmt.Start.TheVariants as begins
+use Rattle.sa_typed.specs.declared.stmt.Simple.TheVariants.{Assign}
 use Rattle.sa_typed.specs.declared.stmt.Stmt.{Stmt}
 use Rattle.sa_typed.specs.declared.stmt.Stmt.TheVariants as stmt
 use Rattle.sa_typed.specs.declared.stmt.Stmt.TheBlock.{hidden-the_row-Stmt-0, hidden-the_row-Stmt-1, hidden-the_row-Group-2}

@@ -1,12 +1,12 @@
 -- Whole executions of programs of a few lines, computed: what stands at one place at each visit, and the end.
-use Rattle.std.proofs.Common.{◌≡◌, ℕ, ℤ, pos, List, [], ◌∷◌, ◌++◌, refl, Option, None, Some, true, false, inl, inr}
+use Rattle.std.proofs.Common.{◌≡◌, ℕ, ℤ, pos, List, [], ◌∷◌, ◌++◌, refl, None, false, inl, inr}
 use Rattle.sa_base.specs.declared.alarm.Kind.TheVariants.{Conversion}
 use Rattle.sa_base.specs.declared.num.Num.TheVariants.{I8, U8, I32}
 use Rattle.sa_base.specs.declared.pos.Pos.{Pos}
 use Rattle.sa_typed.specs.Arithmetic.{operate, as_num, in_type}
 use Rattle.sa_typed.specs.Layouts.{rows, layout_with, layouts_with, struct_layout, layout_of, nums, before_field, index_of}
 use Rattle.sa_typed.specs.Evaluation.{End, Error, Clock, Blocked, Tape, Going, Setting, steps_value, read_place}
-use Rattle.sa_typed.specs.Executions.{Run, Visit, same_parts, after_parts, any_numbers, declare_value, simple_value, turns, run, bodies_of, all_bound, execution, main_of}
+use Rattle.sa_typed.specs.Executions.{Run, Visit, same_parts, after_parts, any_numbers, declare_value, simple_value, turns, run, execution, main_of}
 use Rattle.sa_typed.specs.Progress.{EndsInClock, WaitLast, IsStraight, place_reads, steps_reads, stmt_reads, is_of_all, stmt_takes}
 use Rattle.sa_typed.specs.WellTyped.{IsTypedStmt, AreTypedSteps, steps_layout, converts, type_of, are_fixed}
 use Rattle.sa_typed.specs.declared.expr.Access.{Access}

@@ -6,4 +6,5 @@ pub mod LinkLaws
 pub mod OperandLaws
 mod Sample
 pub mod ProgressLaws
+pub mod DepthLaws
 pub mod SpanLaws

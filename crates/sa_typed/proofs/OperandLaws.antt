@@ -4,11 +4,13 @@ use Rattle.std.specs.Prelude.{◌^◌, ◌-◌}
 use Rattle.sa_base.specs.declared.num.Num.{Num}
 use Rattle.sa_base.specs.declared.num.Num.TheVariants.{I8, U8, I16, U16, I32, U32, I64, U64}
 use Rattle.sa_base.specs.declared.pos.Pos.{Pos}
-use Rattle.sa_typed.specs.Arithmetic.{is_of, as_num, IsSmall, IsOperand, IsRight}
+use Rattle.sa_typed.specs.Arithmetic.{is_of, as_num, IsOperand, IsRight}
 use Rattle.sa_typed.specs.Links.{HasType}
-use Rattle.sa_typed.specs.WellTyped.{converts, right_converts, type_of, IsTypedExpr}
+use Rattle.sa_typed.specs.WellTyped.{converts, right_converts, type_of}
+use Rattle.sa_typed.specs.TypedExpressions.{IsTypedExpression}
 use Rattle.sa_typed.specs.declared.expr.Expr.TheVariants as v
-use Rattle.sa_typed.specs.declared.expr.Expr.TheBlock.{hidden-the_row-Expr-1, hidden-the_row-Link-2}
+use Rattle.sa_typed.specs.declared.expr.Expr.TheBlock.{hidden-the_row-Expr-1, hidden-the_row-Link-2, hidden-the_row-Expr-3}
+use Rattle.sa_typed.specs.declared.program.Program.{Program}
 use Rattle.sa_typed.specs.declared.expr.Operator.{Operator}
 use Rattle.sa_typed.specs.declared.expr.Operator.TheVariants as o
 use Rattle.sa_typed.proofs.ArithmeticLaws.{is_of_from}
@@ -66,10 +68,27 @@ right_converts_itself o.GreaterEqual num = converts_itself num
 -- an operator between two literals of one type
 pub has_type_pair : (op : Operator) (q : Pos) (num : Num) (x y : ℕ) → is_of num (pos x) ≡ true → is_of num (pos y) ≡ true →
     HasType (v.Chain (v.Number x num) (record { op = op; pos = q; num = num; operand = v.Number y num } ∷ []))
-unfolding IsTypedExpr hidden-the_row-Expr-1 hidden-the_row-Link-2 denote.Hole.Carrier.hidden type_of
+unfolding IsTypedExpression hidden-the_row-Expr-1 hidden-the_row-Link-2 denote.Hole.Carrier.hidden type_of
 has_type_pair op q num x y h k = record {
   program = record { structs = []; vars = []; inputs = []; funcs = []; entry = 0; thresholds = [] };
   typed = (h, (k, (record { first = converts_itself num; second = right_converts_itself op num }, tt)));
 }
+
+abbrev empty : Program
+empty = record { structs = []; vars = []; inputs = []; funcs = []; entry = 0; thresholds = [] }
+
+pub has_type_and : (x y : ℕ) → is_of I32 (pos x) ≡ true → is_of I32 (pos y) ≡ true → HasType (v.And (v.Number x I32) (v.Number y I32 ∷ []))
+unfolding IsTypedExpression hidden-the_row-Expr-1 hidden-the_row-Expr-3 denote.Hole.Carrier.hidden
+has_type_and x y h k = record { program = empty; typed = (h, (k, tt)) }
+
+pub has_type_or : (x y : ℕ) → is_of I32 (pos x) ≡ true → is_of I32 (pos y) ≡ true → HasType (v.Or (v.Number x I32) (v.Number y I32 ∷ []))
+unfolding IsTypedExpression hidden-the_row-Expr-1 hidden-the_row-Expr-3 denote.Hole.Carrier.hidden
+has_type_or x y h k = record { program = empty; typed = (h, (k, tt)) }
+
+pub has_type_choice : (x y : ℕ) → is_of I32 (pos x) ≡ true → is_of I32 (pos y) ≡ true → HasType (v.Choice (v.Number x I32) (v.Number y I32) (v.Number 2 I32) I32)
+unfolding IsTypedExpression hidden-the_row-Expr-1 denote.Hole.Carrier.hidden type_of
+has_type_choice x y h k = record { program = empty; typed = (h, ((k, converts_itself I32), (refl, converts_itself I32))) }
+
+pub ruleset has_type_logical = (has_type_and, has_type_or, has_type_choice)
 
 pub ruleset operands = (operand_from, right_from)

@@ -12,9 +12,9 @@ use Rattle.sa_base.specs.declared.num.Num.TheVariants.{I32}
 use Rattle.sa_base.specs.declared.pos.Pos.{Pos}
 use Rattle.sa_typed.specs.Arithmetic.{operate, prefixed, converted, as_num, is_of}
 use Rattle.sa_typed.specs.Layouts.{nums, layout_of, num_in}
-use Rattle.sa_typed.specs.Evaluation.{End, Error, Clock, Blocked, Tape, Going, Value, Gives, Stops, then_value, given, Store, Range, Setting, Here, is_in, range_of, read, checked_index, place_of, is_zero, and_then, or_else, eval, and_value, or_value, links_value, steps_value, step_value, read_place, access_place}
-use Rattle.sa_typed.specs.Executions.{Loop, Visit, Run, State, Result, Goes, Breaks, Over, Turn, Again, Leaves, Ended, with_value, with_store, Activation, Bodies, here_in, any_numbers, simple_value, declare_value, then_state, then_again, visit_with, turns, after_body, turn_with, tested, stepped, turn_of, decided, called, entered, delivered, chosen, is_listed, run, run_all, run_group, wait, block_of, bodies_of, main_of, main_activation, start, ended, execution, converted_value, compound_value, filled, strong_update, copied}
-use Rattle.sa_typed.specs.Progress.{IsStraight, AreStraight, IsEnd, WaitLast, IsTurn, EndsInClock, EndInClock, reads, all_of_reads, links_reads, steps_reads, step_reads, place_reads, access_reads, start_reads, simple_reads, stmt_reads, all_reads, takes, all_of_take, links_take, steps_take, step_takes, place_takes, access_takes, is_of_all, start_takes, simple_takes, stmt_takes, all_take, SomeFails, AreTurns, Causes, Lasts, IsNoError, IsOver, HasVisits, GoesOn, NeverBreaks, IsUnbroken, IsClosed, AreClosed, HaveClosed}
+use Rattle.sa_typed.specs.Evaluation.{End, Error, Clock, Blocked, Tape, Going, Value, Gives, Stops, then_value, given, Store, Range, Setting, Here, is_in, range_of, read, checked_index, place_of, is_zero, eval, and_value, or_value, links_value, steps_value, step_value, read_place, access_place}
+use Rattle.sa_typed.specs.Executions.{Loop, Visit, Run, State, Result, Goes, Breaks, Over, Turn, Again, Leaves, Ended, with_value, with_store, Activation, Bodies, here_in, any_numbers, simple_value, declare_value, then_state, then_again, visit_with, turns, after_body, turn_of, entered, delivered, chosen, is_listed, run, run_all, run_group, wait, block_of, bodies_of, main_of, main_activation, start, ended, execution, converted_value, compound_value, filled, strong_update, copied}
+use Rattle.sa_typed.specs.Progress.{IsStraight, AreStraight, IsEnd, WaitLast, IsTurn, EndsInClock, EndInClock, reads, all_of_reads, links_reads, steps_reads, step_reads, place_reads, access_reads, start_reads, simple_reads, stmt_reads, all_reads, takes, all_of_take, links_take, steps_take, step_takes, place_takes, access_takes, is_of_all, start_takes, simple_takes, stmt_takes, all_take, SomeFails, AreTurns, Causes, Lasts, IsNoError, IsOver, GoesOn, NeverBreaks, IsUnbroken, IsClosed, AreClosed, HaveClosed}
 use Rattle.sa_typed.specs.declared.expr.Expr.{Expr, Number, Read', Input, Prefix', Cast', Chain', And', Or', Choice', end_of-Expr, more_of-Expr, Row_of-Expr, Row_of-Link, end_of-Link, more_of-Link, Row_of-Step, end_of-Step, more_of-Step}
 use Rattle.sa_typed.specs.declared.expr.Expr.TheVariants as e
 use Rattle.sa_typed.specs.declared.expr.Operator.{Operator}

@@ -1,7 +1,7 @@
 -- What an expression means over a store, a tape of input numbers and a clock. No interval stands here.
 -- Operands are evaluated from left to right, which ISO C leaves open (6.5p3) and this project fixes. An expression ends at
 -- its first error, whose kind and place are those of the operation (6.5p5).
-use Rattle.std.specs.Prelude.{ℕ, ℤ, pos, List, [], ◌∷◌, ◌++◌, Bool, ◌&&◌, not, if◌then◌else◌, get_or, unsigned_abs, Result, Ok, Err}
+use Rattle.std.specs.Prelude.{ℕ, ℤ, pos, List, [], ◌∷◌, ◌++◌, Bool, ◌&&◌, if◌then◌else◌, get_or, unsigned_abs, Result, Ok, Err}
 use Rattle.std.specs.Int.RustNames.{int_le, int_lt}
 use Rattle.std.specs.Ordering.{int_eq}
 use Rattle.sa_base.specs.declared.pos.Pos.{Pos}

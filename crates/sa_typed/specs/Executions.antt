@@ -25,7 +25,6 @@ use Rattle.sa_typed.specs.declared.stmt.LoopKind.{LoopKind}
 use Rattle.sa_typed.specs.declared.stmt.LoopKind.TheVariants as kind
 use Rattle.sa_typed.specs.declared.stmt.Stmt.{Stmt, Row_of-Stmt, end_of-Stmt, more_of-Stmt, Row_of-Group, end_of-Group, more_of-Group}
 use Rattle.sa_typed.specs.declared.stmt.Stmt.TheVariants as stmt
-use Rattle.sa_typed.specs.declared.program.Home.{Home}
 use Rattle.sa_typed.specs.declared.program.Home.TheVariants as home
 use Rattle.sa_typed.specs.declared.program.Param.{Param}
 use Rattle.sa_typed.specs.declared.program.Func.{Func}

@@ -6,6 +6,9 @@ pub mod Cells
 pub mod Lines
 pub mod Constants
 pub mod WellTyped
+pub mod TypedExpressions
+pub mod TypedPrograms
+pub mod Depth
 pub mod Links
 pub mod Progress
 pub mod Ranges

@@ -1,7 +1,7 @@
 -- No promise of the top calls rests on this page: it is for laws beside them, for proofs and for inner functions.
 -- That executions go on. Where the clock loop comes last in main and there is no other loop, an execution has fewer than n
 -- visits only because of an error, of the wait at the last clock, of a number that a read doesn't take, or of the tape's end.
-use Rattle.std.specs.Prelude.{ℕ, ◌+◌, ◌*◌, ◌≤◌, ◌<◌, ℤ, pos, ◌≡◌, ◌⊎◌, List, [], ◌∷◌, length, min, Bool, true, false, ◌&&◌, slice_get, Option, Some, None}
+use Rattle.std.specs.Prelude.{ℕ, ◌+◌, ◌*◌, ◌≤◌, ◌<◌, ℤ, pos, ◌≡◌, ◌⊎◌, List, [], ◌∷◌, length, min, Bool, true, false, ◌&&◌, slice_get, Option, None}
 use Rattle.std.specs.List.{AllByRecursion}
 use Rattle.sa_base.specs.declared.num.Num.{Num}
 use Rattle.sa_base.specs.declared.num.Num.TheVariants.{I32}

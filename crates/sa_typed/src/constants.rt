@@ -2,10 +2,10 @@
 
 ghost use Rattle.std.specs.Prelude.{◌≡◌, Ok, IfOk};
 ghost use Rattle.sa_typed.specs.Arithmetic.{IsOperand, IsRight, operate, prefixed, converted};
-ghost use Rattle.sa_typed.specs.Constants.{is_constant, constant_value, then_ok, element_of, fixed_index};
-ghost use Rattle.sa_typed.specs.Links.{HasType, AreAfter, all_constant, are_constant, value_after};
+ghost use Rattle.sa_typed.specs.Constants.{is_constant, constant_value, then_ok, chosen_ok, element_of, fixed_index};
+ghost use Rattle.sa_typed.specs.Links.{HasType, HaveTypes, AreAfter, all_constant, are_constant, value_after, ands_after, ors_after, settles_and, settles_or, truth};
 
-use crate::arithmetic::converted;
+use crate::arithmetic::{as_num, converted};
 use crate::expr::{Expr, Link, Operator, Prefix};
 use sa_base::{Kind, Num};
 
@@ -94,6 +94,58 @@ fn operated(
     }
 }
 
+/// The result that the test of a `?:` chooses, converted to the type of the whole (ISO C 6.5.15p5), or the first error of what is
+/// evaluated.
+fn chosen(
+    num: Num,
+    test: Result<i128, Kind>,
+    first: Result<i128, Kind>,
+    second: Result<i128, Kind>,
+) -> Result<i128, Kind>
+    ensures { result ≡ chosen_ok num test first second }
+{
+    match test {
+        Ok(x) => {
+            let part = if x == 0 { second } else { first };
+            match part {
+                Ok(z) => Ok(as_num(num, z)),
+                Err(kind) => Err(kind),
+            }
+        }
+        Err(kind) => Err(kind),
+    }
+}
+
+/// Whether an operand isn't 0, as a number, or its error.
+fn truth(operand: Result<i128, Kind>) -> Result<i128, Kind>
+    ensures { result ≡ truth operand }
+{
+    match operand {
+        Ok(x) => Ok(if x == 0 { 0 } else { 1 }),
+        Err(kind) => Err(kind),
+    }
+}
+
+/// Whether an `&&` doesn't evaluate what comes after this operand (ISO C 6.5.13p4).
+fn settles_and(operand: Result<i128, Kind>) -> bool
+    ensures { result ≡ settles_and operand }
+{
+    match operand {
+        Ok(x) => x == 0,
+        Err(_) => true,
+    }
+}
+
+/// Whether an `||` doesn't evaluate what comes after this operand (ISO C 6.5.14p4).
+fn settles_or(operand: Result<i128, Kind>) -> bool
+    ensures { result ≡ settles_or operand }
+{
+    match operand {
+        Ok(x) => x != 0,
+        Err(_) => true,
+    }
+}
+
 #[cycle(values)]
 #[tactic(auto, using(crate::proofs::LinkLaws::of_values))]
 /// The value of a constant expression. Of a part that isn't constant it is 0.
@@ -107,10 +159,14 @@ fn constant_value(e: &Expr) -> Result<i128, Kind>
         Expr::Prefix(op, _, num, operand) => prefixed(*op, *num, constant_value(operand.get())),
         Expr::Cast(_, num, operand) => cast(*num, constant_value(operand.get())),
         Expr::Chain(first, links) => value_after(links.as_slice(), constant_value(first.get())),
-        // typing gives none of these yet
-        Expr::And(_, _) => Ok(0),
-        Expr::Or(_, _) => Ok(0),
-        Expr::Choice(_, _, _, _) => Ok(0),
+        Expr::And(first, rest) => ands_after(rest.as_slice(), constant_value(first.get())),
+        Expr::Or(first, rest) => ors_after(rest.as_slice(), constant_value(first.get())),
+        Expr::Choice(test, first, second, num) => chosen(
+            *num,
+            constant_value(test.get()),
+            constant_value(first.get()),
+            constant_value(second.get()),
+        ),
     }
 }
 
@@ -126,6 +182,40 @@ fn value_after(links: &[Link], first: Result<i128, Kind>) -> Result<i128, Kind>
         value = operated(link.op, link.num, value, constant_value(&link.operand));
     }
     value
+}
+
+#[cycle(values)]
+#[tactic(auto, using(crate::proofs::LinkLaws::of_ands))]
+/// What further operands of an `&&` make of a value.
+fn ands_after(operands: &[Expr], first: Result<i128, Kind>) -> Result<i128, Kind>
+    requires { HaveTypes operands.now }
+    ensures { result ≡ ands_after operands.now first }
+{
+    let mut value = first;
+    for operand in operands {
+        if settles_and(value) {
+            return truth(value);
+        }
+        value = constant_value(operand);
+    }
+    truth(value)
+}
+
+#[cycle(values)]
+#[tactic(auto, using(crate::proofs::LinkLaws::of_ors))]
+/// What further operands of an `||` make of a value.
+fn ors_after(operands: &[Expr], first: Result<i128, Kind>) -> Result<i128, Kind>
+    requires { HaveTypes operands.now }
+    ensures { result ≡ ors_after operands.now first }
+{
+    let mut value = first;
+    for operand in operands {
+        if settles_or(value) {
+            return truth(value);
+        }
+        value = constant_value(operand);
+    }
+    truth(value)
 }
 
 /// The element of an array of `n` with this number, None where there is none.

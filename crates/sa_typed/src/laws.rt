@@ -1,5 +1,6 @@
 //! Laws of executions.
 
+ghost use Rattle.sa_typed.specs.Depth.{CallsEnd};
 ghost use Rattle.sa_typed.specs.Progress.{GoesOn, NeverBreaks};
 
 /// An execution has fewer visits than asked for only where an evaluation errs, the last clock is reached, a number of the
@@ -11,4 +12,10 @@ pub fn goes_on()
 /// Where each break stands in a loop, in all functions, no break gets out of a statement.
 pub fn never_breaks()
     ensures { NeverBreaks }
+{}
+
+/// Where no function calls itself, by however many others, the number of functions is deep enough for calls inside calls: no
+/// execution is still going because of it.
+pub fn calls_end()
+    ensures { CallsEnd }
 {}

@@ -445,6 +445,72 @@ fn element(
     Ok(fixed_index(n, &index))
 }
 
+/// `&&` between two literals.
+fn both(alloc: Global, x: u64, y: u64) -> Result<Expr, OutOfMemory>
+    ensures { IfOk result (λ e. e ≡ expr.And (expr.Number x I32) (expr.Number y I32 ∷ [])) }
+{
+    let mut rest = Vec::new(alloc);
+    rest.push(Expr::Number(y, Num::I32))?;
+    let first = Boxed::new(alloc, Expr::Number(x, Num::I32))?;
+    Ok(Expr::And(first, Items::from_vec(rest)))
+}
+
+/// `||` between two literals.
+fn either(alloc: Global, x: u64, y: u64) -> Result<Expr, OutOfMemory>
+    ensures { IfOk result (λ e. e ≡ expr.Or (expr.Number x I32) (expr.Number y I32 ∷ [])) }
+{
+    let mut rest = Vec::new(alloc);
+    rest.push(Expr::Number(y, Num::I32))?;
+    let first = Boxed::new(alloc, Expr::Number(x, Num::I32))?;
+    Ok(Expr::Or(first, Items::from_vec(rest)))
+}
+
+/// `x ? y : 2`.
+fn choice(alloc: Global, x: u64, y: u64) -> Result<Expr, OutOfMemory>
+    ensures { IfOk result (λ e. e ≡ expr.Choice (expr.Number x I32) (expr.Number y I32) (expr.Number 2 I32) I32) }
+{
+    let test = Boxed::new(alloc, Expr::Number(x, Num::I32))?;
+    let first = Boxed::new(alloc, Expr::Number(y, Num::I32))?;
+    let second = Boxed::new(alloc, Expr::Number(2, Num::I32))?;
+    Ok(Expr::Choice(test, first, second, Num::I32))
+}
+
+#[tactic(auto, using(crate::proofs::OperandLaws::has_type_logical))]
+/// The elements of an array of `n` that `x && y`, `x || y` and `x ? y : 2` name; None where a literal is no `int`.
+fn logical_elements(
+    alloc: Global,
+    n: u32,
+    x: u64,
+    y: u64,
+) -> Result<Option<[Option<u32>; 3]>, OutOfMemory> {
+    if !is_of(Num::I32, i128::from(x)) || !is_of(Num::I32, i128::from(y)) {
+        return Ok(None);
+    }
+    let and = fixed_index(n, &both(alloc, x, y)?);
+    let or = fixed_index(n, &either(alloc, x, y)?);
+    let chosen = fixed_index(n, &choice(alloc, x, y)?);
+    Ok(Some([and, or, chosen]))
+}
+
+#[test]
+fn constant_choices(rt: HostRuntime) -> Result<(), Fail> {
+    for (n, x, y, want) in [
+        (4, 3, 5, [Some(1), Some(1), None]),
+        (4, 3, 1, [Some(1), Some(1), Some(1)]),
+        (4, 3, 0, [Some(0), Some(1), Some(0)]),
+        (4, 0, 3, [Some(0), Some(1), Some(2)]),
+        (4, 0, 0, [Some(0), Some(0), Some(2)]),
+        (1, 1, 1, [None, None, None]),
+    ] {
+        assert_eq!(rt;
+            logical_elements(rt.alloc(), n, x, y)?,
+            Some(want),
+            "{x} and {y} of {n}"
+        );
+    }
+    Ok(())
+}
+
 #[test]
 fn constant_indices(rt: HostRuntime) -> Result<(), Fail> {
     for (n, op, x, y, want) in [
