@@ -16,8 +16,8 @@ use sa_base::{Alarm, Kind, Num, OutOfMemory, Pos};
 use sa_interval::Interval;
 use sa_typed::{Operator, Prefix, bits, is_signed};
 
-#[tactic(auto, using(crate::proofs::CodeLaws::range_interval))]
 /// The numbers of a type.
+#[tactic(auto, using(crate::proofs::CodeLaws::range_interval))]
 pub fn range_of(num: Num) -> Interval
     ensures value { result ≡ range_of num }
     ensures whole { IsTypeRange result }
@@ -25,24 +25,24 @@ pub fn range_of(num: Num) -> Interval
     Interval::new(num.lo(), num.hi())
 }
 
-#[tactic(auto, using(crate::proofs::CodeLaws::width_is))]
 /// Wrapped to the bits of a type.
+#[tactic(auto, using(crate::proofs::CodeLaws::width_is))]
 fn wrap(num: Num, s: Interval) -> Interval
     ensures { result ≡ wrap_of s (bits num) }
 {
     s.wrap(bits(num))
 }
 
-#[tactic(auto, unfolding(crate::specs::Operators::as_span))]
 /// An operand converted to the type in which its operator works (ISO C 6.3.1.8).
+#[tactic(auto, unfolding(crate::specs::Operators::as_span))]
 pub fn as_span(num: Num, s: Interval) -> Interval
     ensures { result ≡ as_span num s }
 {
     if is_signed(num) { s } else { wrap(num, s) }
 }
 
-#[tactic(auto, unfolding(crate::specs::Operators::in_type_span))]
 /// Results or converted numbers in a type: of a signed one those that it holds, of an unsigned one what wrapping leaves.
+#[tactic(auto, unfolding(crate::specs::Operators::in_type_span))]
 fn in_type_span(num: Num, s: Interval) -> Option<Interval>
     ensures { result ≡ in_type_span num s }
 {
@@ -63,8 +63,8 @@ pub fn converted_span(num: Num, s: Interval) -> Option<Interval>
     in_type_span(num, s)
 }
 
-#[tactic(auto, unfolding(crate::specs::Alarms::noted))]
 /// Adds the alarm where there may be an error; in iteration nothing is added.
+#[tactic(auto, unfolding(crate::specs::Alarms::noted))]
 fn note_if(
     checking: bool,
     may: bool,
@@ -87,8 +87,8 @@ fn may_not_fit(num: Num, s: Interval) -> bool
     is_signed(num) && !s.le(range_of(num))
 }
 
-#[tactic(auto, unfolding(crate::specs::Operators::fit_alarms))]
 /// Adds the alarm where a signed type may not hold a number.
+#[tactic(auto, unfolding(crate::specs::Operators::fit_alarms))]
 fn note_fit(
     checking: bool,
     num: Num,
@@ -122,16 +122,16 @@ fn may_be(s: Interval, z: i128) -> bool
     s.lo() <= z && z <= s.hi()
 }
 
-#[tactic(auto, unfolding(crate::specs::Operators::quotient_span))]
 /// The quotients of two intervals of the type.
+#[tactic(auto, unfolding(crate::specs::Operators::quotient_span))]
 fn quotient_span(num: Num, a: Interval, b: Interval) -> Option<Interval>
     ensures { result ≡ quotient_span num a b }
 {
     in_type_span(num, a.div(b)?)
 }
 
-#[tactic(auto, using(crate::proofs::CodeLaws::noted_nothing))]
 /// The alarm of a result that is there.
+#[tactic(auto, using(crate::proofs::CodeLaws::noted_nothing))]
 fn note_fit_if(
     checking: bool,
     num: Num,
@@ -148,8 +148,8 @@ fn note_fit_if(
     }
 }
 
-#[tactic(auto, using(crate::proofs::CodeLaws::noted_append), unfolding(crate::specs::Operators::quotient_alarms))]
 /// The alarms of a quotient of two intervals of the type.
+#[tactic(auto, using(crate::proofs::CodeLaws::noted_append), unfolding(crate::specs::Operators::quotient_alarms))]
 fn note_quotient(
     checking: bool,
     num: Num,
@@ -171,8 +171,8 @@ fn may_divide_least(num: Num, a: Interval, b: Interval) -> bool
     is_signed(num) && may_be(a, num.lo()) && may_be(b, -1)
 }
 
-#[tactic(auto, using(crate::proofs::CodeLaws::noted_append), unfolding(crate::specs::Operators::remainder_alarms))]
 /// The alarms of a remainder of two intervals of the type.
+#[tactic(auto, using(crate::proofs::CodeLaws::noted_append), unfolding(crate::specs::Operators::remainder_alarms))]
 fn note_remainder(
     checking: bool,
     num: Num,
@@ -229,8 +229,8 @@ fn shiftable(num: Num, a: Interval) -> Option<Interval>
     }
 }
 
-#[tactic(auto, unfolding(crate::specs::Operators::left_shifts))]
 /// The shifts to the left, before they are fitted to the type.
+#[tactic(auto, unfolding(crate::specs::Operators::left_shifts))]
 fn left_shifts(num: Num, a: Interval, b: Interval) -> Option<Interval>
     requires { IsPart a (range_of num) }
     ensures { result ≡ left_shifts num a b }
@@ -240,8 +240,8 @@ fn left_shifts(num: Num, a: Interval, b: Interval) -> Option<Interval>
     Some(a.shl(count))
 }
 
-#[tactic(auto, unfolding(crate::specs::Operators::left_shift_span))]
 /// The shifts to the left.
+#[tactic(auto, unfolding(crate::specs::Operators::left_shift_span))]
 fn left_shift_span(num: Num, a: Interval, b: Interval) -> Option<Interval>
     requires { IsPart a (range_of num) }
     ensures { result ≡ left_shift_span num a b }
@@ -273,8 +273,8 @@ fn may_be_negative(num: Num, a: Interval) -> bool
     !a.le(not_below_zero(num))
 }
 
-#[tactic(auto, unfolding(crate::specs::Operators::left_shift_errs))]
 /// Whether the count, the number that is shifted to the left or the result may be wrong.
+#[tactic(auto, unfolding(crate::specs::Operators::left_shift_errs))]
 fn left_shift_errs(num: Num, a: Interval, b: Interval) -> bool
     requires { IsPart a (range_of num) }
     ensures { result ≡ left_shift_errs num a b }
@@ -283,8 +283,8 @@ fn left_shift_errs(num: Num, a: Interval, b: Interval) -> bool
     count_errs(num, b) || is_signed(num) && (may_be_negative(num, a) || outside)
 }
 
-#[tactic(auto, unfolding(crate::specs::Operators::right_shift_span))]
 /// The shifts to the right.
+#[tactic(auto, unfolding(crate::specs::Operators::right_shift_span))]
 fn right_shift_span(num: Num, a: Interval, b: Interval) -> Option<Interval>
     ensures { result ≡ right_shift_span num a b }
 {
@@ -430,8 +430,8 @@ fn negated_span(num: Num, a: Interval) -> Interval
     Interval::single(0).sub(a)
 }
 
-#[tactic(auto, unfolding(crate::specs::Operators::operator_span))]
 /// The row of an operator, by cases.
+#[tactic(auto, unfolding(crate::specs::Operators::operator_span))]
 fn operator_row(op: Operator, num: Num, a: Interval, b: Interval) -> Option<Interval>
     requires left { Suits num a }
     requires right { SuitsRight op num b }
@@ -470,9 +470,9 @@ pub fn operator_span(op: Operator, num: Num, a: Interval, b: Interval) -> Option
     operator_row(op, num, a, b)
 }
 
-#[tactic(auto, using(crate::proofs::CodeLaws::noted_nothing), unfolding(crate::specs::Operators::operator_alarms))]
 /// Adds the alarms of an operator that works in the type, of two intervals, which aren't converted to it yet; in iteration
 /// nothing is added.
+#[tactic(auto, using(crate::proofs::CodeLaws::noted_nothing), unfolding(crate::specs::Operators::operator_alarms))]
 pub fn note_operator(
     checking: bool,
     op: Operator,
@@ -534,8 +534,8 @@ pub fn note_operator(
     }
 }
 
-#[tactic(auto, unfolding(crate::specs::Operators::prefix_span))]
 /// The row of an operator before its operand, by cases.
+#[tactic(auto, unfolding(crate::specs::Operators::prefix_span))]
 fn prefix_row(op: Prefix, num: Num, a: Interval) -> Option<Interval>
     requires { Suits num a }
     ensures { result ≡ prefix_span op num a }
@@ -560,8 +560,8 @@ pub fn prefix_span(op: Prefix, num: Num, a: Interval) -> Option<Interval>
     prefix_row(op, num, a)
 }
 
-#[tactic(auto, using(crate::proofs::CodeLaws::noted_nothing), unfolding(crate::specs::Operators::prefix_alarms))]
 /// Adds the alarms of an operator before its operand; in iteration nothing is added.
+#[tactic(auto, using(crate::proofs::CodeLaws::noted_nothing), unfolding(crate::specs::Operators::prefix_alarms))]
 pub fn note_prefix(
     checking: bool,
     op: Prefix,

@@ -316,8 +316,8 @@ fn push_loop(
     }
 }
 
-#[cycle(loops)]
 /// The loops of a statement, in the order of the text.
+#[cycle(loops)]
 fn push_stmt(
     alloc: Global,
     text: &mut Vec<u8>,

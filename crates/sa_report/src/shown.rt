@@ -109,9 +109,9 @@ fn mark_named(
 
 // ---- expressions
 
+/// Marks the cells that occur in an expression.
 #[cycle(marks)]
 #[tactic(auto, using(crate::proofs::MarkLaws::of_forms))]
-/// Marks the cells that occur in an expression.
 fn mark_expr(
     alloc: Global,
     program: &Program,
@@ -156,9 +156,9 @@ fn mark_links(
     Ok(())
 }
 
+/// Marks the cells that an access may name, and those that occur in its indices.
 #[cycle(marks)]
 #[tactic(auto, using(crate::proofs::MarkLaws::of_forms))]
-/// Marks the cells that an access may name, and those that occur in its indices.
 fn mark_access(
     alloc: Global,
     program: &Program,
@@ -313,9 +313,9 @@ pub fn is_same(a: Pos, b: Pos) -> bool
     a.line == b.line && a.col == b.col
 }
 
+/// Marks the cells that occur in the loop whose word stands there.
 #[cycle(loops)]
 #[tactic(auto, using(crate::proofs::MarkLaws::of_loops))]
-/// Marks the cells that occur in the loop whose word stands there.
 fn mark_loop(
     alloc: Global,
     program: &Program,

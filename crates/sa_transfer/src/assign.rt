@@ -52,8 +52,8 @@ fn assign_to(
     }
 }
 
-#[allow(clippy::too_many_arguments)]
 /// The value of an expression as it is assigned to a type.
+#[allow(clippy::too_many_arguments)]
 fn value_as(
     alloc: Global,
     program: &Program,
@@ -77,8 +77,8 @@ fn value_as(
     converted(num, pos, s, checking, alarms)
 }
 
-#[allow(clippy::too_many_arguments)]
 /// Assigns the value of an expression.
+#[allow(clippy::too_many_arguments)]
 fn assign(
     alloc: Global,
     program: &Program,
@@ -107,8 +107,8 @@ fn assign(
     Ok(assign_to(program, ground, ks, s, env))
 }
 
-#[allow(clippy::too_many_arguments)]
 /// What a compound assignment makes of the number that was read, as it is assigned to its type.
+#[allow(clippy::too_many_arguments)]
 fn compound_value(
     alloc: Global,
     program: &Program,
@@ -139,9 +139,9 @@ fn compound_value(
     converted(num, pos, result, checking, alarms)
 }
 
+/// Assigns what an operator makes of the number at the place and of the value of an expression. The place is read once.
 #[allow(clippy::too_many_arguments)]
 #[tactic(auto, unfolding(sa_reference::specs::Assignments::simple_of, sa_reference::specs::Assignments::simple_alarms))]
-/// Assigns what an operator makes of the number at the place and of the value of an expression. The place is read once.
 fn compound(
     alloc: Global,
     program: &Program,
@@ -174,8 +174,8 @@ fn compound(
     Ok(assign_to(program, ground, ks, s, env))
 }
 
-#[tactic(auto, using(crate::proofs::ChangeLaws::of_shapes))]
 /// The type of a scalar, and int for what isn't one.
+#[tactic(auto, using(crate::proofs::ChangeLaws::of_shapes))]
 fn shape_num(shape: &Shape) -> Num
     ensures { (structs : List StructDef) → result ≡ num_in (shape_layout structs shape.now) }
 {
@@ -188,8 +188,8 @@ fn shape_num(shape: &Shape) -> Num
     }
 }
 
-#[tactic(auto, unfolding(sa_typed::specs::Layouts::layout_of))]
 /// The type of a variable.
+#[tactic(auto, unfolding(sa_typed::specs::Layouts::layout_of))]
 fn var_num(program: &Program, var: u32) -> Num
     ensures { result ≡ num_in (layout_of program.now var) }
 {
@@ -199,9 +199,9 @@ fn var_num(program: &Program, var: u32) -> Num
     }
 }
 
+/// A local at its declaration with the value of an expression.
 #[allow(clippy::too_many_arguments)]
 #[tactic(auto, unfolding(sa_reference::specs::Assignments::declare_of, sa_reference::specs::Assignments::declare_alarms))]
-/// A local at its declaration with the value of an expression.
 fn declare_value(
     alloc: Global,
     program: &Program,
@@ -236,9 +236,9 @@ fn declare_value(
     Ok(assign_to(program, ground, Some(Items::from_vec(ks)), s, env))
 }
 
+/// A local at its declaration.
 #[allow(clippy::too_many_arguments)]
 #[tactic(auto, using(sa_operators::proofs::CodeLaws::noted_nothing), unfolding(sa_reference::specs::Assignments::declare_of, sa_reference::specs::Assignments::declare_alarms))]
-/// A local at its declaration.
 fn declare(
     alloc: Global,
     program: &Program,
@@ -273,8 +273,8 @@ fn declare(
     }
 }
 
-#[tactic(auto, using(crate::proofs::FormLaws::alarms_reached), unfolding(sa_operators::specs::Alarms::noted))]
 /// Notes the alarms of the indices of an access.
+#[tactic(auto, using(crate::proofs::FormLaws::alarms_reached), unfolding(sa_operators::specs::Alarms::noted))]
 fn note_indices(
     alloc: Global,
     program: &Program,
@@ -356,8 +356,8 @@ fn copy_to(
     }
 }
 
-#[allow(clippy::too_many_arguments)]
 /// Assigns one structure to another.
+#[allow(clippy::too_many_arguments)]
 fn copy(
     alloc: Global,
     program: &Program,
@@ -382,8 +382,8 @@ fn copy(
     copy_to(alloc, program, ground, to, from, env)
 }
 
-#[tactic(auto, unfolding(sa_reference::specs::Assignments::simple_of, sa_reference::specs::Assignments::simple_alarms))]
 /// Walks a statement, and answers whether its end is reached alive. In checking mode the alarms go to the end of `alarms`.
+#[tactic(auto, unfolding(sa_reference::specs::Assignments::simple_of, sa_reference::specs::Assignments::simple_alarms))]
 pub fn simple(
     alloc: Global,
     program: &Program,

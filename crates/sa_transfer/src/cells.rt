@@ -32,8 +32,8 @@ fn is_starred(starred: &[bool], k: usize) -> bool
     }
 }
 
-#[tactic(auto, unfolding(crate::specs::Lists::stored))]
 /// What a cell is after an interval is assigned to it: a cell for several elements keeps what it may have been.
+#[tactic(auto, unfolding(crate::specs::Lists::stored))]
 fn stored(starred: &[bool], spans: &[Interval], k: usize, s: Interval) -> Interval
     ensures { result ≡ stored starred.now k s spans.now }
 {
@@ -60,8 +60,8 @@ fn join(spans: &mut Items<Interval>, k: usize, s: Interval)
     set(spans, k, s);
 }
 
-#[tactic(auto, using(crate::proofs::StoreLaws::of_joins))]
 /// Joins an interval to each of the cells, of which one is assigned.
+#[tactic(auto, using(crate::proofs::StoreLaws::of_joins))]
 fn join_all(spans: &mut Items<Interval>, ks: &[usize], s: Interval)
     ensures { spans.new ≡ weakly ks.now s spans.old }
 {
@@ -70,8 +70,8 @@ fn join_all(spans: &mut Items<Interval>, ks: &[usize], s: Interval)
     }
 }
 
-#[tactic(auto, unfolding(crate::specs::Lists::assigned_by))]
 /// Assigns an interval to that of the cells which an access leads to. It may lead to each of them.
+#[tactic(auto, unfolding(crate::specs::Lists::assigned_by))]
 pub fn assign_by(starred: &[bool], spans: &mut Items<Interval>, ks: &[usize], s: Interval)
     ensures { spans.new ≡ assigned_by starred.now ks.now s spans.old }
 {
@@ -82,8 +82,8 @@ pub fn assign_by(starred: &[bool], spans: &mut Items<Interval>, ks: &[usize], s:
     }
 }
 
-#[tactic(auto, using(crate::proofs::StoreLaws::of_spans))]
 /// The intervals of the cells.
+#[tactic(auto, using(crate::proofs::StoreLaws::of_spans))]
 pub fn spans_at(
     alloc: Global,
     spans: &[Interval],

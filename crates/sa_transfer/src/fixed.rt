@@ -25,8 +25,8 @@ fn element(i: Option<u32>) -> Option<Reach>
     }
 }
 
-#[tactic(auto, using(crate::proofs::FixedLaws::of_fixed))]
 /// Where a step leads; None where its index errs or names no element.
+#[tactic(auto, using(crate::proofs::FixedLaws::of_fixed))]
 fn fixed_reach(step: &Step) -> Option<Reach>
     requires { HasTypedStep step.now }
     ensures { result ≡ fixed_reach step.now }
@@ -49,8 +49,8 @@ fn fixed_reached(alloc: Global, steps: &[Step]) -> Result<Option<Items<Reach>>, 
     Ok(reaches)
 }
 
-#[tactic(auto, using(crate::proofs::FixedLaws::of_accesses))]
 /// The numbers of the cells that an access names, None where an index errs or names no element.
+#[tactic(auto, using(crate::proofs::FixedLaws::of_accesses))]
 pub fn fixed_cells(
     alloc: Global,
     program: &Program,

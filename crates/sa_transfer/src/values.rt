@@ -32,8 +32,8 @@ use std::alloc::Global;
 
 // ---- operations, where an operand may be missing
 
-#[tactic(auto, using(sa_operators::proofs::CodeLaws::noted_nothing))]
 /// What an operator before its operand makes of it, with its alarm.
+#[tactic(auto, using(sa_operators::proofs::CodeLaws::noted_nothing))]
 fn prefixed(
     op: Prefix,
     pos: Pos,
@@ -55,8 +55,8 @@ fn prefixed(
     }
 }
 
-#[tactic(auto, using(sa_operators::proofs::CodeLaws::noted_nothing))]
 /// What a conversion by a cast or an assignment makes of a value, with its alarm.
+#[tactic(auto, using(sa_operators::proofs::CodeLaws::noted_nothing))]
 pub fn converted(
     num: Num,
     pos: Pos,
@@ -78,8 +78,8 @@ pub fn converted(
     }
 }
 
-#[tactic(auto, using(sa_operators::proofs::CodeLaws::noted_nothing))]
 /// What an operator makes of its operands, with its alarms.
+#[tactic(auto, using(sa_operators::proofs::CodeLaws::noted_nothing))]
 pub fn operated(
     op: Operator,
     pos: Pos,
@@ -114,8 +114,8 @@ fn are_indices(s: Interval, n: u32) -> bool
     0 <= s.lo() && s.hi() <= i128::from(n) - 1
 }
 
-#[tactic(auto, unfolding(sa_operators::specs::Alarms::noted))]
 /// Adds the alarm of an index that may name no element of an array of `n`.
+#[tactic(auto, unfolding(sa_operators::specs::Alarms::noted))]
 fn note_index(
     pos: Pos,
     n: u32,
@@ -154,8 +154,8 @@ fn at(s: Option<Interval>) -> Option<Reach>
     }
 }
 
-#[tactic(auto, using(sa_operators::proofs::CodeLaws::noted_nothing))]
 /// The elements of an array of `n` that an index may name, with its alarm.
+#[tactic(auto, using(sa_operators::proofs::CodeLaws::noted_nothing))]
 fn index_reach(
     pos: Pos,
     n: u32,
@@ -175,8 +175,8 @@ fn index_reach(
     }
 }
 
-#[tactic(auto, unfolding(crate::specs::Lists::with_reach))]
 /// Steps with one more; None where one is missing.
+#[tactic(auto, unfolding(crate::specs::Lists::with_reach))]
 pub fn with_reach(
     reaches: Option<Items<Reach>>,
     reach: Option<Reach>,
@@ -216,8 +216,8 @@ fn join_with(so_far: Option<Interval>, s: Interval) -> Interval
     }
 }
 
-#[tactic(auto, using(crate::proofs::ListLaws::of_joined))]
 /// The least interval that holds those of the cells, None where there is no cell.
+#[tactic(auto, using(crate::proofs::ListLaws::of_joined))]
 fn joined(spans: &[Interval], ks: &[usize]) -> Option<Interval>
     ensures { result ≡ joined spans.now ks.now }
 {
@@ -240,9 +240,9 @@ pub fn read_of(spans: &[Interval], ks: &Option<Items<usize>>) -> Option<Interval
 
 // ---- expressions
 
+/// The interval of an expression, by its form.
 #[cycle(values)]
 #[tactic(auto, using(crate::proofs::FormLaws::of_forms, sa_operators::proofs::CodeLaws::noted_nothing))]
-/// The interval of an expression, by its form.
 fn span_of(
     alloc: Global,
     program: &Program,
@@ -291,9 +291,9 @@ fn span_of(
     }
 }
 
+/// What operators make of a value, from left to right.
 #[cycle(values)]
 #[allow(clippy::too_many_arguments)]
-/// What operators make of a value, from left to right.
 fn span_after(
     alloc: Global,
     program: &Program,
@@ -318,9 +318,9 @@ fn span_after(
     Ok(value)
 }
 
+/// The numbers of the cells that an access names, None where an index has no value.
 #[cycle(values)]
 #[tactic(auto, using(crate::proofs::FormLaws::of_forms, sa_operators::proofs::CodeLaws::noted_nothing))]
-/// The numbers of the cells that an access names, None where an index has no value.
 pub fn named_cells(
     alloc: Global,
     program: &Program,
@@ -353,8 +353,8 @@ pub fn named_cells(
     }
 }
 
-#[cycle(values)]
 /// The steps that an access may take, None where an index has no value.
+#[cycle(values)]
 pub fn reached(
     alloc: Global,
     program: &Program,
@@ -378,9 +378,9 @@ pub fn reached(
     Ok(reaches)
 }
 
+/// Where one step may lead.
 #[cycle(values)]
 #[tactic(auto, using(crate::proofs::FormLaws::of_forms, sa_operators::proofs::CodeLaws::noted_nothing))]
-/// Where one step may lead.
 fn reach_of(
     alloc: Global,
     program: &Program,

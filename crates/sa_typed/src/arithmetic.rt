@@ -65,9 +65,9 @@ fn first_holding(a: Num, b: Num, value: u64) -> Num
     if i128::from(value) <= a.hi() { a } else { b }
 }
 
-#[tactic(auto, unfolding(crate::specs::Arithmetic::literal_type))]
 /// The type of a literal with this value, with `u` or without, with so many `l`, decimal or not: the first of its list
 /// that holds the value (ISO C 6.4.4.1).
+#[tactic(auto, unfolding(crate::specs::Arithmetic::literal_type))]
 pub fn literal_type(value: u64, unsigned: bool, longs: u8, decimal: bool) -> Num
     ensures { result ≡ literal_type value unsigned longs decimal }
 {
@@ -90,24 +90,24 @@ fn power(exponent: u32) -> i128
     1 << exponent
 }
 
-#[tactic(auto, unfolding(crate::specs::Arithmetic::wrapped))]
 /// The number modulo 2^bits.
+#[tactic(auto, unfolding(crate::specs::Arithmetic::wrapped))]
 pub fn wrapped(num: Num, z: i128) -> i128
     ensures { result ≡ wrapped num z }
 {
     z.rem_euclid(power(bits(num)))
 }
 
-#[tactic(auto, unfolding(crate::specs::Arithmetic::as_num))]
 /// An operand as it is converted to the type in which its operator works (ISO C 6.3.1.8).
+#[tactic(auto, unfolding(crate::specs::Arithmetic::as_num))]
 pub fn as_num(num: Num, z: i128) -> i128
     ensures { result ≡ as_num num z }
 {
     if is_signed(num) { z } else { wrapped(num, z) }
 }
 
-#[tactic(auto, unfolding(crate::specs::Arithmetic::in_type))]
 /// The number in a type: a signed type holds it or there is an error of this kind, an unsigned one wraps.
+#[tactic(auto, unfolding(crate::specs::Arithmetic::in_type))]
 fn in_type(kind: Kind, num: Num, z: i128) -> Result<i128, Kind>
     ensures { result ≡ in_type kind num z }
 {
@@ -120,8 +120,8 @@ fn in_type(kind: Kind, num: Num, z: i128) -> Result<i128, Kind>
     }
 }
 
-#[tactic(auto, using(crate::proofs::ArithmeticLaws::in_type_of))]
 /// The number converted by a cast or an assignment (ISO C 6.3.1.3).
+#[tactic(auto, using(crate::proofs::ArithmeticLaws::in_type_of))]
 pub fn converted(num: Num, z: i128) -> Result<i128, Kind>
     ensures value { result ≡ converted num z }
     ensures of_type { IfOk result (λ z. IsOf num z) }
@@ -145,8 +145,8 @@ fn quotient(x: i128, y: i128) -> i128
     x / y
 }
 
-#[tactic(auto, unfolding(crate::specs::Arithmetic::divided))]
 /// The quotient of two numbers of the type (ISO C 6.5.5).
+#[tactic(auto, unfolding(crate::specs::Arithmetic::divided))]
 fn divided(num: Num, x: i128, y: i128) -> Result<i128, Kind>
     requires { IsSmall x }
     ensures { result ≡ divided num x y }
@@ -176,8 +176,8 @@ fn remainder(x: i128, y: i128) -> i128
     x % y
 }
 
-#[tactic(auto, unfolding(crate::specs::Arithmetic::remaindered))]
 /// The remainder of two numbers of the type (ISO C 6.5.5).
+#[tactic(auto, unfolding(crate::specs::Arithmetic::remaindered))]
 fn remaindered(num: Num, x: i128, y: i128) -> Result<i128, Kind>
     requires { IsSmall x }
     ensures { result ≡ remaindered num x y }
@@ -254,8 +254,8 @@ fn signed_product(x: i128, y: i128) -> i128
     x * y
 }
 
-#[tactic(auto, unfolding(crate::specs::Arithmetic::wrapped))]
 /// The product of two numbers of an unsigned type, modulo 2^bits. It may need 128 bits.
+#[tactic(auto, unfolding(crate::specs::Arithmetic::wrapped))]
 fn unsigned_product(num: Num, x: u128, y: u128) -> i128
     requires x { x < 2 ^ 64 }
     requires y { y < 2 ^ 64 }
@@ -294,8 +294,8 @@ fn signed_left(num: Num, x: i128, count: u32) -> Result<i128, Kind>
     }
 }
 
-#[tactic(auto, unfolding(crate::specs::Arithmetic::shifted_left))]
 /// A number of the type shifted to the left (ISO C 6.5.7).
+#[tactic(auto, unfolding(crate::specs::Arithmetic::shifted_left))]
 fn shifted_left(num: Num, x: i128, y: i128) -> Result<i128, Kind>
     requires x { IsOf num x }
     ensures { result ≡ shifted_left num x y }
@@ -315,8 +315,8 @@ fn right(x: i128, count: u32) -> i128
     x >> count
 }
 
-#[tactic(auto, unfolding(crate::specs::Arithmetic::shifted_right))]
 /// A number of the type shifted to the right (ISO C 6.5.7).
+#[tactic(auto, unfolding(crate::specs::Arithmetic::shifted_right))]
 fn shifted_right(num: Num, x: i128, y: i128) -> Result<i128, Kind>
     ensures { result ≡ shifted_right num x y }
 {
@@ -347,8 +347,8 @@ fn or(x: i128, y: i128) -> i128
     x | y
 }
 
-#[tactic(auto, using(crate::proofs::ArithmeticLaws::of_small))]
 /// An operand of an operator that works in the type, converted to it.
+#[tactic(auto, using(crate::proofs::ArithmeticLaws::of_small))]
 fn operand(num: Num, z: i128) -> i128
     requires { IsOperand num z }
     ensures value { result ≡ as_num num z }
@@ -359,8 +359,8 @@ fn operand(num: Num, z: i128) -> i128
 }
 
 impl Operator {
-    #[tactic(auto, unfolding(crate::specs::Arithmetic::operate))]
     /// What the operator makes of two numbers in the type `num`, to which they aren't converted yet (ISO C 6.5.5 to 6.5.12).
+    #[tactic(auto, unfolding(crate::specs::Arithmetic::operate))]
     fn operated(self, num: Num, x: i128, y: i128) -> Result<i128, Kind>
         requires left { IsOperand num x }
         requires right { IsRight self num y }
@@ -414,8 +414,8 @@ impl Operator {
 }
 
 impl Prefix {
-    #[tactic(auto, unfolding(crate::specs::Arithmetic::prefixed))]
     /// What the operator makes of a number in the type `num`, to which it isn't converted yet (ISO C 6.5.3.3).
+    #[tactic(auto, unfolding(crate::specs::Arithmetic::prefixed))]
     fn prefixed(self, num: Num, x: i128) -> Result<i128, Kind>
         requires { IsOperand num x }
         ensures { result ≡ prefixed self num x }
@@ -429,8 +429,8 @@ impl Prefix {
         }
     }
 
-    #[tactic(auto, using(crate::proofs::ArithmeticLaws::prefixed_of))]
     /// What the operator makes of a number in the type `num`, to which it isn't converted yet (ISO C 6.5.3.3).
+    #[tactic(auto, using(crate::proofs::ArithmeticLaws::prefixed_of))]
     pub fn operate(self, num: Num, x: i128) -> Result<i128, Kind>
         requires { IsOperand num x }
         ensures value { result ≡ prefixed self num x }

@@ -9,9 +9,9 @@ use crate::arithmetic::{as_num, converted};
 use crate::expr::{Expr, Link, Operator, Prefix};
 use sa_base::{Kind, Num};
 
+/// Whether it is made of literals, operators and casts alone.
 #[cycle(constants)]
 #[tactic(auto, using(crate::proofs::LinkLaws::of_constants))]
-/// Whether it is made of literals, operators and casts alone.
 pub fn is_constant(e: &Expr) -> bool
     ensures { result ≡ is_constant e.now }
 {
@@ -146,9 +146,9 @@ fn settles_or(operand: Result<i128, Kind>) -> bool
     }
 }
 
+/// The value of a constant expression. Of a part that isn't constant it is 0.
 #[cycle(values)]
 #[tactic(auto, using(crate::proofs::LinkLaws::of_values))]
-/// The value of a constant expression. Of a part that isn't constant it is 0.
 fn constant_value(e: &Expr) -> Result<i128, Kind>
     requires { HasType e.now }
     ensures { result ≡ constant_value e.now }
@@ -170,9 +170,9 @@ fn constant_value(e: &Expr) -> Result<i128, Kind>
     }
 }
 
+/// What operators make of a value, from left to right.
 #[cycle(values)]
 #[tactic(auto, using(crate::proofs::LinkLaws::of_values_after))]
-/// What operators make of a value, from left to right.
 fn value_after(links: &[Link], first: Result<i128, Kind>) -> Result<i128, Kind>
     requires { AreAfter first links.now }
     ensures { result ≡ value_after links.now first }
@@ -184,9 +184,9 @@ fn value_after(links: &[Link], first: Result<i128, Kind>) -> Result<i128, Kind>
     value
 }
 
+/// What further operands of an `&&` make of a value.
 #[cycle(values)]
 #[tactic(auto, using(crate::proofs::LinkLaws::of_ands))]
-/// What further operands of an `&&` make of a value.
 fn ands_after(operands: &[Expr], first: Result<i128, Kind>) -> Result<i128, Kind>
     requires { HaveTypes operands.now }
     ensures { result ≡ ands_after operands.now first }
@@ -201,9 +201,9 @@ fn ands_after(operands: &[Expr], first: Result<i128, Kind>) -> Result<i128, Kind
     truth(value)
 }
 
+/// What further operands of an `||` make of a value.
 #[cycle(values)]
 #[tactic(auto, using(crate::proofs::LinkLaws::of_ors))]
-/// What further operands of an `||` make of a value.
 fn ors_after(operands: &[Expr], first: Result<i128, Kind>) -> Result<i128, Kind>
     requires { HaveTypes operands.now }
     ensures { result ≡ ors_after operands.now first }
@@ -229,9 +229,9 @@ fn element(n: u32, i: i128) -> Option<u32>
     }
 }
 
-#[tactic(auto, unfolding(crate::specs::Constants::fixed_index))]
 /// The element of an array of `n` that a constant index names, None where it errs or names none. An index that isn't
 /// constant may be anything.
+#[tactic(auto, unfolding(crate::specs::Constants::fixed_index))]
 pub fn fixed_index(n: u32, e: &Expr) -> Option<u32>
     requires { HasType e.now }
     ensures { result ≡ fixed_index n e.now }

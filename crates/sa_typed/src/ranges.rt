@@ -104,8 +104,8 @@ fn over_spans(spans: &[(u64, i128, i128)], from: u64, to: u64) -> (i128, i128)
     held
 }
 
-#[tactic(auto, unfolding(crate::specs::Gathering::with_span), using(std::proofs::lemmas::Int::ints))]
 /// What `held` becomes by one more span, which begins after those that `held` is made of.
+#[tactic(auto, unfolding(crate::specs::Gathering::with_span), using(std::proofs::lemmas::Int::ints))]
 fn with_span(held: (i128, i128), span: (u64, i128, i128), from: u64, to: u64) -> (i128, i128)
     ensures { range result ≡ with_span from to (range held) span }
 {

@@ -37,16 +37,16 @@ const LLONG_MAX: i128 = 9_223_372_036_854_775_807;
 
 const ULLONG_MAX: i128 = 18_446_744_073_709_551_615;
 
-#[tactic(auto, using(crate::proofs::OperandLaws::operands))]
 /// Whether an operator that works in the type may have this operand.
+#[tactic(auto, using(crate::proofs::OperandLaws::operands))]
 fn is_operand(num: Num, z: i128) -> bool
     ensures { IsTrue result → IsOperand num z }
 {
     LLONG_MIN <= z && z <= ULLONG_MAX && is_of(num, as_num(num, z))
 }
 
-#[tactic(auto, using(crate::proofs::OperandLaws::operands))]
 /// The result of an operator, None where it may not have these operands.
+#[tactic(auto, using(crate::proofs::OperandLaws::operands))]
 fn operated(op: Operator, num: Num, x: i128, y: i128) -> Option<Result<i128, Kind>> {
     if is_operand(num, x) && is_operand(num, y) {
         Some(op.operate(num, x, y))
@@ -429,8 +429,8 @@ fn pair(alloc: Global, op: Operator, x: u64, y: u64) -> Result<Expr, OutOfMemory
     Ok(Expr::Chain(first, Items::from_vec(links)))
 }
 
-#[tactic(auto, using(crate::proofs::OperandLaws::has_type_pair))]
 /// The element of an array of `n` that an operator between two literals names; None where one of them is no `int`.
+#[tactic(auto, using(crate::proofs::OperandLaws::has_type_pair))]
 fn element(
     alloc: Global,
     n: u32,
@@ -475,8 +475,8 @@ fn choice(alloc: Global, x: u64, y: u64) -> Result<Expr, OutOfMemory>
     Ok(Expr::Choice(test, first, second, Num::I32))
 }
 
-#[tactic(auto, using(crate::proofs::OperandLaws::has_type_logical))]
 /// The elements of an array of `n` that `x && y`, `x || y` and `x ? y : 2` name; None where a literal is no `int`.
+#[tactic(auto, using(crate::proofs::OperandLaws::has_type_logical))]
 fn logical_elements(
     alloc: Global,
     n: u32,
