@@ -5,16 +5,12 @@
 #![tactic(auto)]
 
 mod cursor;
-#[cfg(test)]
-mod display_tests;
 mod expr;
 mod fault;
 mod names;
 mod parts;
 mod source;
 mod stmt;
-#[cfg(test)]
-mod tests;
 mod unit;
 mod words;
 

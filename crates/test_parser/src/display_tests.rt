@@ -1,7 +1,7 @@
 //! What is printed of a source has the tokens of the source, and reads back as what prints the same.
 
-use crate::parse;
 use sa_base::Pos;
+use sa_parser::parse;
 use sa_tokens::{Token, Word, tokens};
 use std::alloc::Global;
 use std::test::Fail;

@@ -1,7 +1,7 @@
 //! Sources that have a tree, where others have none, and how much may be open.
 
-use super::*;
 use sa_base::Pos;
+use sa_parser::{ParseFault, parse};
 use sa_syntax::{Item, Unit};
 use sa_tokens::{TokenFault, end_of, tokens};
 use std::alloc::Global;
