@@ -1,3 +1,4 @@
+-- No promise of the top calls rests on this page: it is for laws beside them, for proofs and for inner functions.
 -- What typing promises of expressions and places, over every form of the language: steps follow what their variable is made of,
 -- each operand converts to the type in which its operator works without loss of meaning (ISO C 6.3.1.8, 6.5), and each variable
 -- is one that the function may name. `TypedPrograms` goes on from here to statements and programs.

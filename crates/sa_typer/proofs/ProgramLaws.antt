@@ -346,9 +346,12 @@ module _ (s : Typer) (x : Entry) (kind : is_entry_type x.result ≡ true) (named
   program_typed = record {
     entry = omega arith;
     funcs = each_function;
-    ranks = (no_rank, record {
-      few = λ k l. let z : no_rank k ≡ 0 = refl in omega (arith, l, z);
-      falls = λ k f h. subst (λ (ss : List Site). AllByRecursion (λ s. no_rank s.func < no_rank k) ss) (sym (calls_nothing k f h)) tt;
-    });
+    ranks = (
+      no_rank,
+      record {
+        few = λ k l. let z : no_rank k ≡ 0 = refl in omega (arith, l, z);
+        falls = λ k f h. subst (λ (ss : List Site). AllByRecursion (λ s. no_rank s.func < no_rank k) ss) (sym (calls_nothing k f h)) tt;
+      },
+    );
     items = items;
   }
