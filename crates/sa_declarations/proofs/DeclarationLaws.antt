@@ -16,9 +16,10 @@ use Rattle.sa_syntax.specs.declared.stmt.Local.{Local}
 use Rattle.sa_syntax.specs.declared.stmt.LocalDeclr.{LocalDeclr}
 use Rattle.sa_syntax.specs.declared.stmt.LocalStart.{LocalStart}
 use Rattle.sa_syntax.specs.declared.stmt.LocalStart.TheVariants as inner
-use Rattle.sa_typed.specs.Cells.{is_static}
 use Rattle.sa_typed.specs.Layouts.{Layout, leaf, rows, layout_with, shape_layout, layout_of, var_layout, nums}
-use Rattle.sa_typed.specs.WellTyped.{HasTypedItems, IsTypedStart, IsTypedStmt, num_of_input}
+use Rattle.sa_typed.specs.TypedExpressions.{is_named_by}
+use Rattle.sa_typed.specs.TypedPrograms.{IsOwn}
+use Rattle.sa_typed.specs.WellTyped.{HasTypedItems, IsTypedStart, num_of_input}
 use Rattle.sa_typed.specs.declared.program.Home.{Home}
 use Rattle.sa_typed.specs.declared.program.Home.TheVariants as home
 use Rattle.sa_typed.specs.declared.program.Input.{Input}
@@ -49,7 +50,7 @@ use Rattle.sa_operands.specs.Lists.{bounds}
 use Rattle.sa_declarations.specs.Declarations.{named, var, added, variable, added_input, input, input_type, initial, global_by, global, next_global, globals, are_bare, is_struct, declared, beginning, begun_with, begun_by, begun, local_as, local_of, next_local, locals, local}
 use Rattle.sa_scopes.specs.Typing.{Typed, Typing, Gives, and_then, pure, fault, refused}
 use Rattle.sa_scopes.proofs.StructLaws.{IsFront, slice_front, slice_last, slice_cases, RefersBelow, refers_more}
-use Rattle.sa_operands.proofs.RowLaws.{AllStmts, stmts_append, simple_typed}
+use Rattle.sa_operands.proofs.RowLaws.{GoodStmt, AllStmts, stmts_append, simple_typed}
 use Rattle.sa_scopes.proofs.WalkLaws.{Ends, Later, no_fault, ElementBelow, element_more, IsThere, there_more, IsSound, Well, Leads, Any, gives, refuses, refusal, bind, next, from, here, free, also, so, either, one_of, unless, all_parts}
 use Rattle.sa_operands.proofs.OperandLaws.{GoodOperand}
 use Rattle.sa_operands.proofs.PlaceLaws.{IsIndex, index_good, shaped}
@@ -87,7 +88,7 @@ module _ (p : Program) where
 
   pub record IsNew (s : Typer) (shape : Shape) (home : Home) (zs : List ℤ) : Type 0 where
     pub below : RefersBelow (length s.structs.defs) shape
-    pub stays : is_static home ≡ false
+    pub stays : is_named_by 0 home ≡ true
     pub items : HoldsItems shape zs
 
   -- after a refusal nothing is promised, whatever else is seen
@@ -114,7 +115,7 @@ module _ (p : Program) where
         | inr f ↦ record {
           shape = subst (λ (y : Var). RefersBelow (length s.structs.defs) y.shape) f.1 h.below;
           items = h.items k x (front k x g) (ap (λ (y : Var). y.shape) (sym f.1)) (ap (λ (y : Var). y.initial) (sym f.1));
-          home = ap (λ (y : Var). is_static y.home) (sym f.1) ∙ h.stays;
+          home = ap (λ (y : Var). is_named_by 0 y.home) (sym f.1) ∙ h.stays;
         }
       ]
 
@@ -273,12 +274,12 @@ module _ (p : Program) where
     below : RefersBelow (length s.structs.defs) shape
     begins : IsBeginning shape b
 
-  local_as_leads : (ty : Ty) (x : Name) (shape : Shape) (b : Beginning) (s : Typer) → Leads p (IsBegun s shape b) s (λ a t. IsTypedStmt p a) (local_as ty x shape b s)
+  local_as_leads : (ty : Ty) (x : Name) (shape : Shape) (b : Beginning) (s : Typer) → Leads p (IsBegun s shape b) s (λ a t. GoodStmt p a) (local_as ty x shape b s)
   local_as_leads ty x shape b s =
       next (from (λ h. record { below = h.below; stays = refl; items = h.begins.items }) (variable_leads x shape (home.Local 0) ty.constant b.initial s))
-      (λ k t. gives (λ w h e. simple_typed p (simply.Declare k b.start) (h.0.begins.start k (var x shape (home.Local 0) ty.constant b.initial) h.1 refl)))
+      (λ k t. gives (λ w h e. simple_typed p (simply.Declare k b.start) (h.0.begins.start k (var x shape (home.Local 0) ty.constant b.initial) h.1 refl, subst (IsOwn 0) (sym h.1) refl)))
 
-  local_of_leads : (ty : Ty) (d : LocalDeclr) (s : Typer) → Leads p (GoodTy ty s) s (λ a t. IsTypedStmt p a) (local_of ty d s)
+  local_of_leads : (ty : Ty) (d : LocalDeclr) (s : Typer) → Leads p (GoodTy ty s) s (λ a t. GoodStmt p a) (local_of ty d s)
   unfolding local_of
   local_of_leads ty d s =
       bind {Z = λ dims t. RefersBelow (length t.structs.defs) (shape_of ty.element dims)} (all_bounds_leads p (out-Declr d.declr).bounds s)

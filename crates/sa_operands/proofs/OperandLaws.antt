@@ -46,7 +46,7 @@ use Rattle.sa_scopes.specs.Values as values
 use Rattle.sa_scopes.specs.Values.{literal_value, prefix_value, cast_value, miscast_value, operator_value, value_of, constant}
 use Rattle.sa_operands.specs.Operands.{stand_in, some_number, sort_of, is_object, known_value, expr_or, literal_number, literal, is_comparison, by_itself, with_threshold, beside, no_object, no_number, prefixed, cast_to, miscast, cast, operator_of, left_of, some_left, link, linked_numbers, linked_by, linked, chained}
 use Rattle.sa_scopes.specs.Typing.{Typed, Typing, Gives, and_then, pure, refused}
-use Rattle.sa_operands.proofs.RowLaws.{AllSteps, list_layout, all_fixed, steps_append, layout_append, fixed_append, read_typed, access_typed, access_fixed, at_typed, field_typed, at_fixed, field_fixed, AllLinks, after_links, all_constant, links_append, after_append, constant_append, number_typed, input_typed, prefix_typed, cast_typed, chain_typed, type_number, type_input, type_read, type_prefix, type_cast, type_chain, constant_number, constant_prefix, constant_cast, constant_chain}
+use Rattle.sa_operands.proofs.RowLaws.{NamesVariable, AllSteps, list_layout, all_fixed, steps_append, layout_append, fixed_append, read_typed, access_typed, access_fixed, at_typed, field_typed, at_fixed, field_fixed, AllLinks, after_links, all_constant, links_append, after_append, constant_append, number_typed, input_typed, prefix_typed, cast_typed, chain_typed, type_number, type_input, type_read, type_prefix, type_cast, type_chain, constant_number, constant_prefix, constant_cast, constant_chain}
 use Rattle.sa_scopes.proofs.WalkLaws.{Ends, Later, Well, Leads, Any, gives, refuses, refusal, bind, next, from, so, either, unless}
 
 -- ---- promises
@@ -59,6 +59,7 @@ pub record IsGood (p : Program) (x : Expr) (num : Num) (w : Value) : Type 0 wher
 -- a place with such an object
 pub record LeadsTo (p : Program) (l : Layout) (fixed : Bool) (x : Access) : Type 0 where
   pub typed : IsTypedAccess p l x
+  pub named : NamesVariable p (e.Read x I32)
   pub constant : fixed ≡ true → is_fixed_read (e.Read x I32) ≡ true
 
 abbrev pub struct_in : Program → ℕ → Layout

@@ -11,6 +11,7 @@ use Rattle.sa_syntax.specs.declared.expr.PlaceBase.{PlaceBase}
 use Rattle.sa_syntax.specs.declared.expr.PlaceBase.TheVariants as base
 use Rattle.sa_typed.specs.Constants.{is_constant, is_fixed}
 use Rattle.sa_typed.specs.Layouts.{Layout, Layouts, leaf, row, fields, rows, layout_with, layouts_with, nth_field, struct_layout, shape_layout, layout_of, var_layout}
+use Rattle.sa_typed.specs.TypedExpressions.{is_named_by, IsNamed, IsVariable}
 use Rattle.sa_typed.specs.WellTyped.{typed_step, into, num_of_input, IsTypedExpr, IsTypedStep, IsTypedAccess, IsFixedAccess, is_fixed_read}
 use Rattle.sa_typed.specs.declared.expr.Access.{Access}
 use Rattle.sa_typed.specs.declared.expr.Expr.{Expr}
@@ -44,7 +45,7 @@ use Rattle.sa_operands.specs.Operands.{sort_of, is_object, known_value, expr_or}
 use Rattle.sa_operands.specs.Places.{root_by, root_of, pointed_by, pointed, spot_at, variable_at, spot_of, begun, begins, lost, deeper, stepped, indexed_with, element_of, index, to_member, field_of, field, is_known, arrow, var_of, access_of, access, reading, operand_by, operand}
 use Rattle.sa_scopes.specs.Typing.{Typed, Typing, Gives, and_then, pure, refused}
 use Rattle.sa_scopes.proofs.StructLaws.{FieldsBelow, struct_known}
-use Rattle.sa_operands.proofs.RowLaws.{AllSteps, list_layout, all_fixed, steps_append, layout_append, fixed_append, read_typed, access_typed, access_fixed, at_typed, field_typed, at_fixed, field_fixed, input_typed, type_input, type_read}
+use Rattle.sa_operands.proofs.RowLaws.{AllSteps, list_layout, all_fixed, steps_append, layout_append, fixed_append, read_typed, access_typed, access_named, access_fixed, at_typed, field_typed, at_fixed, field_fixed, input_typed, type_input, type_read}
 use Rattle.sa_scopes.proofs.WalkLaws.{Ends, Later, Well, IsThere, Leads, Any, gives, refuses, refusal, bind, next, from, so, either, unless}
 use Rattle.sa_operands.proofs.OperandLaws.{IsGood, LeadsTo, GoodOperand, struct_in}
 
@@ -66,10 +67,12 @@ abbrev pub shaped : List ℕ → Plain → Shape
 shaped ns q = record { dims = ns; plain = q }
 
 -- steps into a variable, to what is made so
-pub record IsPlace (p : Program) (k : ℕ) (steps : List Step) (l : Layout) (fixed : Bool) : Type 0 where
+pub record IsPlace (p : Program) (k : ℕ) (steps : List Step) (l : Layout) (fixed locked : Bool) : Type 0 where
   pub typed : AllSteps p steps
   pub leads : list_layout (Some (layout_of p k)) steps ≡ Some l
   pub constant : fixed ≡ true → all_fixed steps ≡ true
+  pub named : IsNamed 0 (slice_get p.vars k)
+  pub free : locked ≡ false → IsVariable (slice_get p.vars k)
 
 -- an input as a whole
 pub record IsInput (p : Program) (k : ℕ) (num : Num) (shape : Shape) (locked : Bool) : Type 0 where
@@ -80,7 +83,7 @@ pub record IsInput (p : Program) (k : ℕ) (num : Num) (shape : Shape) (locked :
 abbrev pub IsAt : Program → Spot → Root → Option Shape → Type 0
 IsAt p l root.Nothing o = ⊥
 IsAt p l (root.Variable k) None = ⊥
-IsAt p l (root.Variable k) (Some shape) = IsPlace p k l.steps (shape_layout p.structs shape) l.fixed
+IsAt p l (root.Variable k) (Some shape) = IsPlace p k l.steps (shape_layout p.structs shape) l.fixed l.locked
 IsAt p l (root.Input k num) None = ⊥
 IsAt p l (root.Input k num) (Some shape) = IsInput p k num shape l.locked
 
@@ -126,22 +129,22 @@ module _ (p : Program) where
   whole_layout k v h = ap (var_layout p.structs) h
 
   -- a variable as a whole
-  variable_good : (q : Pos) (k : ℕ) (o : Option Var) (v : Var) → o ≡ Some v → slice_get p.vars k ≡ Some v → GoodSpot p (variable_at q k o)
+  variable_good : (q : Pos) (k : ℕ) (o : Option Var) (v : Var) → o ≡ Some v → slice_get p.vars k ≡ Some v → is_named_by 0 v.home ≡ true → GoodSpot p (variable_at q k o)
   unfolding AllSteps list_layout all_fixed
-  variable_good q k None v h g = cc
-  variable_good q k (Some u) v h g =
+  variable_good q k None v h g n = cc
+  variable_good q k (Some u) v h g n =
       let same : u ≡ v = cc in
       let here : slice_get p.vars k ≡ Some u = g ∙ sym h in
-      record { typed = tt; leads = ap (λ (l : Layout). Some l) (whole_layout k u here); constant = λ f. refl }
+      record { typed = tt; leads = ap (λ (l : Layout). Some l) (whole_layout k u here); constant = λ f. refl; named = subst (IsNamed 0) (sym g) n; free = λ e. subst IsVariable (sym here) e }
 
-  spot_good : (s : Typer) (q : Pos) (r : Root) → Ends p s → IsRoot p (length s.vars) r → GoodSpot p (spot_of s q r)
+  spot_good : (s : Typer) (q : Pos) (r : Root) → Well p s → Ends p s → IsRoot p (length s.vars) r → GoodSpot p (spot_of s q r)
   unfolding spot_of
-  spot_good s q (root.Variable k) e h = let v = within s.vars k h in variable_good q k (slice_get s.vars k) v.0 v.1 (e.vars k v.0 v.1)
-  spot_good s q (root.Input k num) e h = record { there = h; scalar = refl; kept = refl }
-  spot_good s q root.Nothing e h = absurd h
+  spot_good s q (root.Variable k) w e h = let v = within s.vars k h in variable_good q k (slice_get s.vars k) v.0 v.1 (e.vars k v.0 v.1) (w.vars k v.0 v.1).home
+  spot_good s q (root.Input k num) w e h = record { there = h; scalar = refl; kept = refl }
+  spot_good s q root.Nothing w e h = absurd h
 
   spot_leads : (q : Pos) (r : Root) (s : Typer) → Leads p (IsRoot p (length s.vars) r) s (λ l t. GoodSpot p l) (Gives (spot_of s q r) s)
-  spot_leads q r s = gives (λ w x e. spot_good s q r e x)
+  spot_leads q r s = gives (λ w x e. spot_good s q r w e x)
 
   begun_leads : {X : Type 0} (q : Pos) (m : Typing Root) (s : Typer) → Leads p X s (λ r t. IsRoot p (length t.vars) r) (m s) → Leads p X s (λ l t. GoodSpot p l) (begun q m s)
   begun_leads q m s h = bind {Z = λ r t. IsRoot p (length t.vars) r} h (λ r t l x w y. y) (λ r t. spot_leads q r t)
@@ -158,27 +161,34 @@ module _ (p : Program) where
   and_first true y h = refl
   and_first false y h = cc
 
+  or_first : (x y : Bool) → (x || y) ≡ false → x ≡ false
+  or_first true y h = cc
+  or_first false y h = refl
+
   and_rest : (x y : Bool) → (x && y) ≡ true → y ≡ true
   and_rest true y h = h
   and_rest false y h = cc
 
   -- one step further into a variable
-  one_further : (k : ℕ) (steps : List Step) (l m : Layout) (fixed more : Bool) (x : Step) → IsPlace p k steps l fixed → IsTypedStep p x → typed_step l x ≡ Some m → (more ≡ true → (fixed ≡ true) × (is_fixed x ≡ true)) →
-      IsPlace p k (steps ++ x ∷ []) m more
-  one_further k steps l m fixed more x h t s f = record {
+  one_further : (k : ℕ) (steps : List Step) (l m : Layout) (fixed more locked kept : Bool) (x : Step) → IsPlace p k steps l fixed locked → IsTypedStep p x → typed_step l x ≡ Some m → (more ≡ true → (fixed ≡ true) × (is_fixed x ≡ true)) →
+      (kept ≡ false → locked ≡ false) → IsPlace p k (steps ++ x ∷ []) m more kept
+  one_further k steps l m fixed more locked kept x h t s f g = record {
     typed = steps_append p steps x h.typed t;
     leads = layout_append (Some (layout_of p k)) steps x ∙ ap (λ (o : Option Layout). into o x) h.leads ∙ s;
     constant = λ e. fixed_append steps x (h.constant (f e).0) (f e).1;
+    named = h.named;
+    free = λ e. h.free (g e);
   }
 
   -- an object that isn't a number is in a variable
   stepped_good : (l m : Spot) (r : Root) (shape inner : Shape) (x : Step) → m.steps ≡ l.steps ++ x ∷ [] → scalar_of shape ≡ None → IsTypedStep p x →
-      typed_step (shape_layout p.structs shape) x ≡ Some (shape_layout p.structs inner) → (m.fixed ≡ true → (l.fixed ≡ true) × (is_fixed x ≡ true)) →
+      typed_step (shape_layout p.structs shape) x ≡ Some (shape_layout p.structs inner) → (m.fixed ≡ true → (l.fixed ≡ true) × (is_fixed x ≡ true)) → (m.locked ≡ false → l.locked ≡ false) →
       IsAt p l r (Some shape) → IsAt p m r (Some inner)
-  stepped_good l m root.Nothing shape inner x e n t s f h = h
-  stepped_good l m (root.Variable k) shape inner x e n t s f h =
-      subst (λ (steps : List Step). IsPlace p k steps (shape_layout p.structs inner) m.fixed) (sym e) (one_further k l.steps (shape_layout p.structs shape) (shape_layout p.structs inner) l.fixed m.fixed x h t s f)
-  stepped_good l m (root.Input k num) shape inner x e n t s f h = let c = h.scalar in cc (n, c)
+  stepped_good l m root.Nothing shape inner x e n t s f g h = h
+  stepped_good l m (root.Variable k) shape inner x e n t s f g h =
+      subst (λ (steps : List Step). IsPlace p k steps (shape_layout p.structs inner) m.fixed m.locked) (sym e)
+      (one_further k l.steps (shape_layout p.structs shape) (shape_layout p.structs inner) l.fixed m.fixed l.locked m.locked x h t s f g)
+  stepped_good l m (root.Input k num) shape inner x e n t s f g h = let c = h.scalar in cc (n, c)
 
   pub record IsIndex (i : Operand) : Type 0 where
     pub typed : IsTypedExpr p (expr_or i)
@@ -221,7 +231,7 @@ module _ (p : Program) where
       gives (λ w h k.
       subst (λ (o : Shape). IsAt p m l.root (Some o)) (sym rest)
       (stepped_good l m l.root (shaped (n ∷ ns) t) (shaped ns t) x refl refl (at_typed p q n (expr_or i) h.0.typed) (array_step n ns t q (expr_or i))
-      (λ f. (and_first l.fixed (values.is_constant (known_value i)) f, at_fixed q n (expr_or i) ∙ h.0.constant (and_rest l.fixed (values.is_constant (known_value i)) f))) h.1))
+      (λ f. (and_first l.fixed (values.is_constant (known_value i)) f, at_fixed q n (expr_or i) ∙ h.0.constant (and_rest l.fixed (values.is_constant (known_value i)) f))) (λ g. g) h.1))
 
   element_leads : (q : Pos) (i : Operand) (o : Option Shape) (d : ℕ) (l : Spot) (s : Typer) →
       Leads p (IsIndex i × IsAt p l l.root (there o d)) s (λ l t. GoodSpot p l) (element_of q (expr_or i) (form_inside o d) (indexed_with i (record l { shape = o; depth = d })) s)
@@ -288,7 +298,7 @@ module _ (p : Program) where
   to_member_leads q k l s (Some m) h =
       gives (λ w x e.
       stepped_good l (stepped (step.Field m.number) m.shape (l.locked || m.constant) l) l.root (shaped [] (Struct k)) m.shape (step.Field m.number) refl refl (field_typed p m.number)
-      (member_step s k m w e (h m refl)) (λ f. (f, field_fixed m.number)) x)
+      (member_step s k m w e (h m refl)) (λ f. (f, field_fixed m.number)) (or_first l.locked m.constant) x)
 
   field_by : (q : Pos) (x : Name) (l : Spot) (ns : List ℕ) (t : Plain) (s : Typer) → Leads p (IsAt p l l.root (Some (shaped ns t))) s (λ l t. GoodSpot p l) (field_of q x (Some (form_by ns t)) l s)
   field_by q x l [] (Scalar num) s = refuses 5 q
@@ -308,14 +318,14 @@ module _ (p : Program) where
   arrow_leads q l s = next (unless (is_known l.shape) 5 q) (λ a t. gives (λ w x e. let h = known_there l l.root l.shape l.depth x.0 in let g = x.1 in cc))
 
   -- ---- the whole place
-  access_good : (k : ℕ) (steps : List Step) (l : Layout) (fixed : Bool) → IsPlace p k steps l fixed → LeadsTo p l fixed (access_of (root.Variable k) steps)
-  access_good k steps l fixed h = record { typed = access_typed p k steps l h.typed h.leads; constant = λ f. access_fixed k steps (h.constant f) }
+  access_good : (k : ℕ) (steps : List Step) (l : Layout) (fixed locked : Bool) → IsPlace p k steps l fixed locked → LeadsTo p l fixed (access_of (root.Variable k) steps)
+  access_good k steps l fixed locked h = record { typed = access_typed p k steps l h.typed h.leads; named = access_named p k steps h.named; constant = λ f. access_fixed k steps (h.constant f) }
 
   operand_by_leads : (l : Spot) (r : Root) (ns : List ℕ) (t : Plain) → IsAt p l r (Some (shaped ns t)) → GoodOperand p (operand_by (record l { root = r }) (Some (form_by ns t)))
   unfolding layout_with rows
   operand_by_leads l root.Nothing ns t h = absurd h
   operand_by_leads l (root.Variable k) [] (Scalar num) h = record { typed = read_typed p k l.steps num h.typed h.leads; is = type_read (access_of (root.Variable k) l.steps) num; constant = λ c. cc }
-  operand_by_leads l (root.Variable k) [] (Struct j) h = access_good k l.steps (struct_in p j) l.fixed h
+  operand_by_leads l (root.Variable k) [] (Struct j) h = access_good k l.steps (struct_in p j) l.fixed l.locked h
   operand_by_leads l (root.Variable k) (n ∷ ns) t h = tt
   operand_by_leads l (root.Input k num) [] (Scalar m) h = record { typed = input_typed p k m (h.there ∙ sym h.scalar); is = type_input k m; constant = λ c. cc }
   operand_by_leads l (root.Input k num) [] (Struct j) h = let c = h.scalar in cc

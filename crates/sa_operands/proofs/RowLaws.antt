@@ -8,6 +8,8 @@ use Rattle.sa_typed.specs.Arithmetic.{is_of, result_type, prefix_type}
 use Rattle.sa_typed.specs.Constants.{is_constant, are_constant, is_fixed}
 use Rattle.sa_typed.specs.Layouts.{Layout, leaf, row, fields, nth_field, layout_of}
 use Rattle.sa_typed.specs.WellTyped.{type_of, links_type, converts, typed_step, into, steps_layout, num_of_input, IsLink, IsTypedExpr, AreTypedLinks, AreTypedSteps, IsTypedStep, are_fixed, is_fixed_read, IsRead, IsTypedAccess, IsFixedAccess, IsTypedSimple, IsTypedStmt, AreTypedStmts}
+use Rattle.sa_typed.specs.TypedExpressions.{IsNamed, IsVariable, ChangesVariable}
+use Rattle.sa_typed.specs.TypedPrograms.{IsOwn}
 use Rattle.sa_typed.specs.declared.expr.Access.{Access, roll-Access}
 use Rattle.sa_typed.specs.declared.expr.Expr.{Expr, Number, Read', Input, Prefix', Cast', Chain', end_of-Expr, more_of-Expr, Row_of-Link, end_of-Link, more_of-Link, items-the_row-Link, items_hidden-the_row-Link-2, Row_of-Step, end_of-Step, more_of-Step, items-the_row-Step, items_hidden-the_row-Step-0}
 use Rattle.sa_typed.specs.declared.expr.Expr.TheVariants as v
@@ -19,6 +21,7 @@ use Rattle.sa_typed.specs.declared.expr.Step.TheVariants as step
 use Rattle.sa_typed.specs.declared.program.Input as program
 use Rattle.sa_typed.specs.declared.program.Program.{Program}
 use Rattle.sa_typed.specs.declared.stmt.Simple.{Simple}
+use Rattle.sa_typed.specs.declared.stmt.Simple.TheVariants.{Declare, Assign, Compound, Copy}
 use Rattle.sa_typed.specs.declared.stmt.LoopKind.TheVariants as kind
 use Rattle.sa_typed.specs.declared.stmt.Stmt.{Stmt, Row_of-Stmt, end_of-Stmt, more_of-Stmt, items-the_row-Stmt, items_hidden-the_row-Stmt-0}
 use Rattle.sa_typed.specs.declared.stmt.Stmt.TheVariants as s
@@ -96,6 +99,20 @@ module _ (p : Program) where
 
 pub access_fixed : (k : ℕ) (xs : List Step) → all_fixed xs ≡ true → is_fixed_read (v.Read (roll-Access (record { var = k; steps = xs })) I32) ≡ true
 access_fixed k xs h = let r = steps_of (v.Read (roll-Access (record { var = k; steps = xs })) I32) in fixed_row r.0 r.1 ∙ ap all_fixed (items_hidden-the_row-Step-0 xs) ∙ h
+
+-- the variable of an access is one that main may name
+abbrev pub NamesVariable : Program → Expr → Type 0
+NamesVariable p (Read' v n steps num) = IsNamed 0 (slice_get p.vars v)
+NamesVariable p _ = ⊥
+
+module _ (p : Program) (k : ℕ) (xs : List Step) where
+  pub access_named : IsNamed 0 (slice_get p.vars k) → NamesVariable p (v.Read (roll-Access (record { var = k; steps = xs })) I32)
+  unfolding IsTypedExpr
+  access_named h = h
+
+  pub access_changes : IsVariable (slice_get p.vars k) → ChangesVariable p (v.Read (roll-Access (record { var = k; steps = xs })) I32)
+  unfolding IsTypedExpr
+  access_changes h = h
 
 -- each form of a step
 module _ (p : Program) where
@@ -232,34 +249,85 @@ constant_chain a ls h k =
     both_fixed (is_constant a) (are_constant r.1) h (constant_row r.0 r.1 ∙ ap all_constant (items_hidden-the_row-Link-2 ls) ∙ k)
 
 -- ---- statements
+-- what is declared is a local of main, and what is assigned to may change
+abbrev pub IsFree : Program → Simple → Type 0
+IsFree p (Declare k x) = IsOwn 0 (slice_get p.vars k)
+IsFree p (Assign x num q a) = ChangesVariable p (v.Read x I32)
+IsFree p (Compound x num op q work a) = ChangesVariable p (v.Read x I32)
+IsFree p (Copy k x q y) = ChangesVariable p (v.Read x I32) × NamesVariable p (v.Read y I32)
+
+-- simple statements and blocks of them
+unfoldable mutual
+  pub IsFreeStmt : Program → Stmt → Type 0
+  IsFreeStmt p (Stmt.Simple x) = IsFree p x
+  IsFreeStmt p (Stmt.Block' n all) = AreFree p all
+  IsFreeStmt p _ = ⊥
+
+  pub AreFree : {n : _} → Program → Row_of-Stmt n → Type 0
+  AreFree p end_of-Stmt = Unit {0}
+  AreFree p (more_of-Stmt x rest) = IsFreeStmt p x × AreFree p rest
+
+abbrev pub GoodSimple : Program → Simple → Type 0
+GoodSimple p x = IsTypedSimple p x × IsFree p x
+
+abbrev pub GoodStmt : Program → Stmt → Type 0
+GoodStmt p x = IsTypedStmt p x × IsFreeStmt p x
+
 unfoldable pub AllStmts : Program → List Stmt → Type 0
 AllStmts p [] = Unit {0}
-AllStmts p (x ∷ xs) = IsTypedStmt p x × AllStmts p xs
+AllStmts p (x ∷ xs) = GoodStmt p x × AllStmts p xs
 
-pub stmts_append : (p : Program) (xs : List Stmt) (x : Stmt) → AllStmts p xs → IsTypedStmt p x → AllStmts p (xs ++ x ∷ [])
+unfoldable pub AllTyped : Program → List Stmt → Type 0
+AllTyped p [] = Unit {0}
+AllTyped p (x ∷ xs) = IsTypedStmt p x × AllTyped p xs
+
+pub stmts_append : (p : Program) (xs : List Stmt) (x : Stmt) → AllStmts p xs → GoodStmt p x → AllStmts p (xs ++ x ∷ [])
 unfolding AllStmts
 stmts_append p [] x h k = (k, tt)
 stmts_append p (y ∷ xs) x h k = (h.0, stmts_append p xs x h.1 k)
 
-stmts_row : (p : Program) (n : _) (r : Row_of-Stmt n) → AllStmts p (items-the_row-Stmt n r) → AreTypedStmts p r
-unfolding AllStmts IsTypedStmt
+-- good statements, and a typed one behind them
+pub typed_append : (p : Program) (xs : List Stmt) (x : Stmt) → AllStmts p xs → IsTypedStmt p x → AllTyped p (xs ++ x ∷ [])
+unfolding AllStmts AllTyped
+typed_append p [] x h k = (k, tt)
+typed_append p (y ∷ xs) x h k = (h.0.0, typed_append p xs x h.1 k)
+
+typed_of : (p : Program) (xs : List Stmt) → AllStmts p xs → AllTyped p xs
+unfolding AllStmts AllTyped
+typed_of p [] h = tt
+typed_of p (y ∷ xs) h = (h.0.0, typed_of p xs h.1)
+
+stmts_row : (p : Program) (n : _) (r : Row_of-Stmt n) → AllTyped p (items-the_row-Stmt n r) → AreTypedStmts p r
+unfolding AllTyped IsTypedStmt
 stmts_row p n end_of-Stmt h = tt
 stmts_row p n (more_of-Stmt x rest) h = (h.0, stmts_row p _ rest h.1)
+
+pub free_row : (p : Program) (n : _) (r : Row_of-Stmt n) → AllStmts p (items-the_row-Stmt n r) → AreFree p r
+unfolding AllStmts IsFreeStmt
+free_row p n end_of-Stmt h = tt
+free_row p n (more_of-Stmt x rest) h = (h.0.1, free_row p _ rest h.1)
 
 abbrev stmts_of : Stmt → (n : _) × Row_of-Stmt n
 stmts_of (Stmt.Block' n r) = (_, r)
 stmts_of _ = (_, end_of-Stmt)
 
 module _ (p : Program) where
-  pub simple_typed : (x : Simple) → IsTypedSimple p x → IsTypedStmt p (s.Simple x)
-  unfolding IsTypedStmt
+  pub simple_typed : (x : Simple) → GoodSimple p x → GoodStmt p (s.Simple x)
+  unfolding IsTypedStmt IsFreeStmt
   simple_typed x h = h
 
-  pub block_typed : (all : List Stmt) → AllStmts p all → IsTypedStmt p (s.Block all)
+  pub whole_typed : (all : List Stmt) → AllTyped p all → IsTypedStmt p (s.Block all)
   unfolding IsTypedStmt
-  block_typed all h = let r = stmts_of (s.Block all) in stmts_row p r.0 r.1 (subst (AllStmts p) (sym (items_hidden-the_row-Stmt-0 all)) h)
+  whole_typed all h = let r = stmts_of (s.Block all) in stmts_row p r.0 r.1 (subst (AllTyped p) (sym (items_hidden-the_row-Stmt-0 all)) h)
+
+  whole_free : (all : List Stmt) → AllStmts p all → IsFreeStmt p (s.Block all)
+  unfolding IsFreeStmt
+  whole_free all h = let r = stmts_of (s.Block all) in free_row p r.0 r.1 (subst (AllStmts p) (sym (items_hidden-the_row-Stmt-0 all)) h)
+
+  pub block_typed : (all : List Stmt) → AllStmts p all → GoodStmt p (s.Block all)
+  block_typed all h = (whole_typed all (typed_of p all h), whole_free all h)
 
   -- the clock loop around statements, of which the wait is the last
   pub clock_typed : (q : Pos) (all : List Stmt) → AllStmts p all → IsTypedStmt p (s.Loop q kind.Clock None (s.Block (all ++ s.Wait ∷ [])) None)
   unfolding IsTypedStmt Rattle.sa_typed.specs.declared.stmt.Stmt.TheBlock.hidden-the_row-Stmt-1 denote.Hole.Carrier.hidden
-  clock_typed q all h = block_typed (all ++ s.Wait ∷ []) (stmts_append p all s.Wait h tt)
+  clock_typed q all h = whole_typed (all ++ s.Wait ∷ []) (typed_append p all s.Wait h tt)

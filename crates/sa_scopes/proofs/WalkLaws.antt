@@ -4,7 +4,7 @@ use Rattle.std.proofs.Common.{◌≡◌, ℕ, zero, suc, ◌+◌, ◌<◌, ◌�
 use Rattle.std.specs.Prelude.{if◌then◌else◌, slice_get}
 use Rattle.sa_base.specs.declared.num.Num.{Num}
 use Rattle.sa_base.specs.declared.pos.Pos.{Pos}
-use Rattle.sa_typed.specs.Cells.{is_static}
+use Rattle.sa_typed.specs.TypedExpressions.{is_named_by}
 use Rattle.sa_typed.specs.WellTyped.{num_of_input, HasTypedItems}
 use Rattle.sa_typed.specs.declared.program.Program.{Program}
 use Rattle.sa_typed.specs.declared.program.Var.{Var}
@@ -73,7 +73,7 @@ tag_more n m (t.Struct k) le h = omega arith
 pub record IsSound (p : Program) (structs k : ℕ) (v : Var) : Type 0 where
   pub shape : RefersBelow structs v.shape
   pub items : HasTypedItems p k v
-  pub home : is_static v.home ≡ false
+  pub home : is_named_by 0 v.home ≡ true
 
 pub record Well (p : Program) (s : Typer) : Type 0 where
   pub names : (i : ℕ) (m : Named) → slice_get s.names.meanings i ≡ Some m → IsThere p (length s.structs.defs) (length s.vars) m

@@ -167,7 +167,7 @@ mutual
   links_still p end_of-Link left t = tt
   links_still p (more_of-Link op q work b rest) left t = (typed_still p b t.0, (t.1.0, links_still p rest (result_type op work) t.1.1))
 
-  steps_still : {n : _} (p : Program) (row : Row_of-Step n) → AreTypedSteps p row → AreTypedWays p row
+  pub steps_still : {n : _} (p : Program) (row : Row_of-Step n) → AreTypedSteps p row → AreTypedWays p row
   steps_still p end_of-Step t = tt
   steps_still p (more_of-Step (At' q m k (more_of-Expr a end_of-Expr)) rest) t = (typed_still p a t.0, steps_still p rest t.1)
   steps_still p (more_of-Step (Field x) rest) t = (tt, steps_still p rest t.1)

@@ -3,6 +3,7 @@ use Rattle.std.proofs.Common.{◌≡◌, ℕ, zero, suc, ◌+◌, ◌≤◌, Boo
 use Rattle.std.proofs.lemmas.Bool.Decides.{nat_tests}
 use Rattle.std.specs.Prelude.{if◌then◌else◌, slice_get, not, ◌==◌}
 use Rattle.sa_base.specs.declared.num.Num.{Num}
+use Rattle.sa_base.specs.declared.num.Num.TheVariants.{I32}
 use Rattle.sa_base.specs.declared.pos.Pos.{Pos}
 use Rattle.sa_syntax.specs.declared.expr.Place.{Place}
 use Rattle.sa_syntax.specs.declared.stmt.BlockItem as blocks
@@ -14,9 +15,11 @@ use Rattle.sa_syntax.specs.declared.stmt.Simple.TheVariants as x
 use Rattle.sa_syntax.specs.declared.stmt.Stmt as stmts
 use Rattle.sa_syntax.specs.declared.stmt.Stmt.{Row_of-BlockItem, end_of-BlockItem, more_of-BlockItem}
 use Rattle.sa_typed.specs.Layouts.{Layout, leaf, rows, layout_with, shape_layout}
-use Rattle.sa_typed.specs.WellTyped.{type_of, IsLink, IsTypedExpr, IsTypedAccess, IsTypedSimple, IsTypedStmt, IsFixedAccess}
+use Rattle.sa_typed.specs.WellTyped.{type_of, IsLink}
+use Rattle.sa_typed.specs.TypedExpressions.{ChangesVariable}
 use Rattle.sa_typed.specs.declared.expr.Access.{Access}
 use Rattle.sa_typed.specs.declared.expr.Expr.{Expr}
+use Rattle.sa_typed.specs.declared.expr.Expr.TheVariants as made
 use Rattle.sa_typed.specs.declared.expr.Operator.{Operator}
 use Rattle.sa_typed.specs.declared.program.Program.{Program}
 use Rattle.sa_typed.specs.declared.shape.Plain.{Plain}
@@ -42,7 +45,7 @@ use Rattle.sa_declarations.specs.Declarations.{local}
 use Rattle.sa_scopes.specs.Scopes.{Scope, oldest, count}
 use Rattle.sa_typer.specs.Statements.{mismatched, to_number, to_struct, to_form, assigned, compound_of, update_of, one, sort_by, compounded_number, compounded_by, compounded, left_side, simple, left_scope, scoped, directive, stmt, items, item}
 use Rattle.sa_scopes.specs.Typing.{Typed, Typing, Gives, and_then, pure, each}
-use Rattle.sa_operands.proofs.RowLaws.{AllStmts, stmts_append, access_typed, access_fixed, simple_typed, block_typed}
+use Rattle.sa_operands.proofs.RowLaws.{GoodSimple, AllStmts, stmts_append, access_typed, access_named, access_changes, access_fixed, simple_typed, block_typed}
 use Rattle.sa_scopes.proofs.WalkLaws.{Ends, Later, Well, Leads, Any, gives, refuses, refusal, bind, next, from, free, so, unless}
 use Rattle.sa_operands.proofs.OperandLaws.{IsGood, LeadsTo, GoodOperand, struct_in, one_good, works}
 use Rattle.sa_operands.proofs.PlaceLaws.{IsAt, GoodSpot, there, shaped}
@@ -71,9 +74,21 @@ module _ (p : Program) where
   none_typed = tt
 
   -- ---- left sides
-  left_access : (l : Spot) (r : Root) (shape : Shape) → IsAt p l r (Some shape) → l.locked ≡ false → LeadsTo p (shape_layout p.structs shape) l.fixed (access_of r l.steps)
+  -- an access to a variable that may change
+  record IsLeft (layout : Layout) (fixed : Bool) (x : Access) : Type 0 where
+    leads : LeadsTo p layout fixed x
+    changes : ChangesVariable p (made.Read x I32)
+
+  left_access : (l : Spot) (r : Root) (shape : Shape) → IsAt p l r (Some shape) → l.locked ≡ false → IsLeft (shape_layout p.structs shape) l.fixed (access_of r l.steps)
   left_access l root.Nothing shape h f = absurd h
-  left_access l (root.Variable k) shape h f = record { typed = access_typed p k l.steps (shape_layout p.structs shape) h.typed h.leads; constant = λ c. access_fixed k l.steps (h.constant c) }
+  left_access l (root.Variable k) shape h f = record {
+    leads = record {
+      typed = access_typed p k l.steps (shape_layout p.structs shape) h.typed h.leads;
+      named = access_named p k l.steps h.named;
+      constant = λ c. access_fixed k l.steps (h.constant c);
+    };
+    changes = access_changes p k l.steps (h.free f);
+  }
   left_access l (root.Input k num) shape h f = let g = h.kept in cc
 
   is_there : (l : Spot) (r : Root) → IsAt p l r None → ⊥
@@ -84,15 +99,15 @@ module _ (p : Program) where
   -- what a left side leads to
   abbrev Leading : Spot → Option Shape → Type 0
   Leading l None = ⊥
-  Leading l (Some shape) = LeadsTo p (shape_layout p.structs shape) l.fixed (access l)
+  Leading l (Some shape) = IsLeft (shape_layout p.structs shape) l.fixed (access l)
 
   leading : (l : Spot) (o : Option Shape) → IsAt p l l.root o → l.locked ≡ false → Leading l o
   leading l None h f = is_there l l.root h
   leading l (Some shape) h f = left_access l l.root shape h f
 
   -- ---- assignments
-  number_leads : (l : Spot) (num : Num) (q : Pos) (i : Operand) (s : Typer) → Leads p (LeadsTo p (leaf num) l.fixed (access l) × GoodOperand p i) s (λ y t. IsTypedSimple p y) (to_number (access l) num q i s)
-  number_leads l num q (a.Number e m v) s = gives (λ w h e. (h.0.typed, h.1.typed))
+  number_leads : (l : Spot) (num : Num) (q : Pos) (i : Operand) (s : Typer) → Leads p (IsLeft (leaf num) l.fixed (access l) × GoodOperand p i) s (λ y t. GoodSimple p y) (to_number (access l) num q i s)
+  number_leads l num q (a.Number e m v) s = gives (λ w h e. ((h.0.leads.typed, h.1.typed), h.0.changes))
   number_leads l num q (a.Struct y k fixed r) s = refuses 5 q
   number_leads l num q (a.Array r) s = refuses 5 q
   number_leads l num q a.Unknown s = gives (λ w h e. absurd h.1)
@@ -100,31 +115,31 @@ module _ (p : Program) where
   same_number : (k j : ℕ) → (k == j) ≡ true → j ≡ k
   same_number k j h = grind (arith, nat_tests)
 
-  copied : (l : Spot) (k j : ℕ) (fixed : Bool) (y : Access) (q : Pos) → LeadsTo p (struct_in p k) l.fixed (access l) → LeadsTo p (struct_in p j) fixed y → (k == j && l.fixed && fixed) ≡ true →
-      IsTypedSimple p (simply.Copy k (access l) q y)
+  copied : (l : Spot) (k j : ℕ) (fixed : Bool) (y : Access) (q : Pos) → IsLeft (struct_in p k) l.fixed (access l) → LeadsTo p (struct_in p j) fixed y → (k == j && l.fixed && fixed) ≡ true →
+      GoodSimple p (simply.Copy k (access l) q y)
   copied l k j fixed y q left right h =
       let all = all_three (k == j) l.fixed fixed h in
       let same = subst (λ (n : ℕ). LeadsTo p (struct_in p n) fixed y) (same_number k j all.0) right in
-      (struct_in p k, record { typed = left.typed; fixed = left.constant all.1.0 }, record { typed = same.typed; fixed = same.constant all.1.1 })
+      ((struct_in p k, record { typed = left.leads.typed; fixed = left.leads.constant all.1.0 }, record { typed = same.typed; fixed = same.constant all.1.1 }), (left.changes, same.named))
 
-  struct_leads : (l : Spot) (k : ℕ) (q : Pos) (i : Operand) (s : Typer) → Leads p (LeadsTo p (struct_in p k) l.fixed (access l) × GoodOperand p i) s (λ y t. IsTypedSimple p y) (to_struct (access l) l.fixed k q i s)
+  struct_leads : (l : Spot) (k : ℕ) (q : Pos) (i : Operand) (s : Typer) → Leads p (IsLeft (struct_in p k) l.fixed (access l) × GoodOperand p i) s (λ y t. GoodSimple p y) (to_struct (access l) l.fixed k q i s)
   struct_leads l k q (a.Number e m v) s = refuses 5 q
   struct_leads l k q (a.Struct y j fixed r) s =
       next (unless (not (k == j && l.fixed && fixed)) 7 q) (λ u t. gives (λ w h e. copied l k j fixed y q h.0.0 h.0.1 (not_false (k == j && l.fixed && fixed) h.1)))
   struct_leads l k q (a.Array r) s = refuses 5 q
   struct_leads l k q a.Unknown s = gives (λ w h e. absurd h.1)
 
-  form_leads : (l : Spot) (q : Pos) (i : Operand) (ns : List ℕ) (t : Plain) (s : Typer) → Leads p (Leading l (Some (shaped ns t)) × GoodOperand p i) s (λ y t. IsTypedSimple p y) (to_form l (Some (form_by ns t)) q i s)
+  form_leads : (l : Spot) (q : Pos) (i : Operand) (ns : List ℕ) (t : Plain) (s : Typer) → Leads p (Leading l (Some (shaped ns t)) × GoodOperand p i) s (λ y t. GoodSimple p y) (to_form l (Some (form_by ns t)) q i s)
   unfolding layout_with rows
   form_leads l q i [] (Scalar num) s = number_leads l num q i s
   form_leads l q i [] (Struct k) s = struct_leads l k q i s
   form_leads l q i (n ∷ ns) t s = refuses 5 q
 
-  option_leads : (l : Spot) (q : Pos) (i : Operand) (o : Option Shape) (d : ℕ) (s : Typer) → Leads p (Leading l (there o d) × GoodOperand p i) s (λ y t. IsTypedSimple p y) (to_form l (form_inside o d) q i s)
+  option_leads : (l : Spot) (q : Pos) (i : Operand) (o : Option Shape) (d : ℕ) (s : Typer) → Leads p (Leading l (there o d) × GoodOperand p i) s (λ y t. GoodSimple p y) (to_form l (form_inside o d) q i s)
   option_leads l q i None d s = gives (λ w h e. absurd h.0)
   option_leads l q i (Some shape) d s = form_leads l q i (drop d shape.dims) shape.plain s
 
-  assigned_leads : (l : Spot) (q : Pos) (i : Operand) (s : Typer) → Leads p (Leading l (there l.shape l.depth) × GoodOperand p i) s (λ y t. IsTypedSimple p y) (assigned l q i s)
+  assigned_leads : (l : Spot) (q : Pos) (i : Operand) (s : Typer) → Leads p (Leading l (there l.shape l.depth) × GoodOperand p i) s (λ y t. GoodSimple p y) (assigned l q i s)
   unfolding assigned
   assigned_leads l q i s = option_leads l q i l.shape l.depth s
 
@@ -132,37 +147,37 @@ module _ (p : Program) where
   link_there : (o : Operator) (to m : Num) (e : Expr) → type_of e ≡ m → IsLink o to (working o to m) (type_of e)
   link_there o to m e h = subst (λ (n : Num). IsLink o to (working o to m) n) (sym h) (works o to m)
 
-  object_leads : {Y : Type 0} (l : Spot) (o : Operator) (q : Pos) (i : Operand) (s : Typer) → Leads p (Y × GoodOperand p i) s (λ y t. IsTypedSimple p y) (compounded_by (access l) o q sort.Object i s)
+  object_leads : {Y : Type 0} (l : Spot) (o : Operator) (q : Pos) (i : Operand) (s : Typer) → Leads p (Y × GoodOperand p i) s (λ y t. GoodSimple p y) (compounded_by (access l) o q sort.Object i s)
   object_leads l o q (a.Number e m v) s = refuses 5 q
   object_leads l o q (a.Struct y k fixed r) s = refuses 5 q
   object_leads l o q (a.Array r) s = refuses 5 q
   object_leads l o q a.Unknown s = refuses 5 q
 
-  numbers_leads : (l : Spot) (to : Num) (o : Operator) (q : Pos) (i : Operand) (s : Typer) → Leads p (LeadsTo p (leaf to) l.fixed (access l) × GoodOperand p i) s (λ y t. IsTypedSimple p y) (compounded_by (access l) o q (sort.Number to) i s)
-  numbers_leads l to o q (a.Number e m v) s = gives (λ w h g. (h.0.typed, (h.1.typed, link_there o to m e h.1.is)))
+  numbers_leads : (l : Spot) (to : Num) (o : Operator) (q : Pos) (i : Operand) (s : Typer) → Leads p (IsLeft (leaf to) l.fixed (access l) × GoodOperand p i) s (λ y t. GoodSimple p y) (compounded_by (access l) o q (sort.Number to) i s)
+  numbers_leads l to o q (a.Number e m v) s = gives (λ w h g. ((h.0.leads.typed, (h.1.typed, link_there o to m e h.1.is)), h.0.changes))
   numbers_leads l to o q (a.Struct y k fixed r) s = refuses 5 q
   numbers_leads l to o q (a.Array r) s = refuses 5 q
   numbers_leads l to o q a.Unknown s = gives (λ w h e. absurd h.1)
 
-  unknown_leads : (l : Spot) (o : Operator) (q : Pos) (i : Operand) (s : Typer) → Leads p (⊥ × GoodOperand p i) s (λ y t. IsTypedSimple p y) (compounded_by (access l) o q sort.Unknown i s)
+  unknown_leads : (l : Spot) (o : Operator) (q : Pos) (i : Operand) (s : Typer) → Leads p (⊥ × GoodOperand p i) s (λ y t. GoodSimple p y) (compounded_by (access l) o q sort.Unknown i s)
   unknown_leads l o q (a.Number e num v) s = gives (λ w h e. absurd h.0)
   unknown_leads l o q (a.Struct y k fixed r) s = refuses 5 q
   unknown_leads l o q (a.Array r) s = refuses 5 q
   unknown_leads l o q a.Unknown s = gives (λ w h e. absurd h.0)
 
   by_sort : (l : Spot) (o : Operator) (q : Pos) (i : Operand) (ns : List ℕ) (t : Plain) (s : Typer) →
-      Leads p (Leading l (Some (shaped ns t)) × GoodOperand p i) s (λ y t. IsTypedSimple p y) (compounded_by (access l) o q (sort_by (Some (form_by ns t))) i s)
+      Leads p (Leading l (Some (shaped ns t)) × GoodOperand p i) s (λ y t. GoodSimple p y) (compounded_by (access l) o q (sort_by (Some (form_by ns t))) i s)
   unfolding layout_with rows
   by_sort l o q i [] (Scalar to) s = numbers_leads l to o q i s
   by_sort l o q i [] (Struct k) s = object_leads l o q i s
   by_sort l o q i (n ∷ ns) t s = object_leads l o q i s
 
   sort_leads : (l : Spot) (o : Operator) (q : Pos) (i : Operand) (z : Option Shape) (d : ℕ) (s : Typer) →
-      Leads p (Leading l (there z d) × GoodOperand p i) s (λ y t. IsTypedSimple p y) (compounded_by (access l) o q (sort_by (form_inside z d)) i s)
+      Leads p (Leading l (there z d) × GoodOperand p i) s (λ y t. GoodSimple p y) (compounded_by (access l) o q (sort_by (form_inside z d)) i s)
   sort_leads l o q i None d s = unknown_leads l o q i s
   sort_leads l o q i (Some shape) d s = by_sort l o q i (drop d shape.dims) shape.plain s
 
-  compounded_leads : (l : Spot) (o : Operator) (q : Pos) (i : Operand) (s : Typer) → Leads p (Leading l (there l.shape l.depth) × GoodOperand p i) s (λ y t. IsTypedSimple p y) (compounded l o q i s)
+  compounded_leads : (l : Spot) (o : Operator) (q : Pos) (i : Operand) (s : Typer) → Leads p (Leading l (there l.shape l.depth) × GoodOperand p i) s (λ y t. GoodSimple p y) (compounded l o q i s)
   unfolding compounded
   compounded_leads l o q i s = sort_leads l o q i l.shape l.depth s
 
@@ -173,10 +188,10 @@ module _ (p : Program) where
   right_leads : {X : Type 0} (i : _) (s : Typer) → Leads p X s (λ y t. GoodOperand p y) (expr i s)
   right_leads i s = free (expr_leads p i s)
 
-  by_one : (l : Spot) (o : Operator) (q : Pos) (s : Typer) → Leads p (Leading l (there l.shape l.depth)) s (λ y t. IsTypedSimple p y) (compounded l o q one s)
+  by_one : (l : Spot) (o : Operator) (q : Pos) (s : Typer) → Leads p (Leading l (there l.shape l.depth)) s (λ y t. GoodSimple p y) (compounded l o q one s)
   by_one l o q s = from (λ h. (h, one_good p)) (compounded_leads l o q one s)
 
-  simple_leads : {X : Type 0} (y : from_tree.Simple) (s : Typer) → Leads p X s (λ y t. IsTypedSimple p y) (simple y s)
+  simple_leads : {X : Type 0} (y : from_tree.Simple) (s : Typer) → Leads p X s (λ y t. GoodSimple p y) (simple y s)
   unfolding simple
   simple_leads (x.Assign y q i) s = next (left_leads y s) (λ l t. next (right_leads i t) (λ j u. from (λ h. (h.0.1, h.1)) (assigned_leads l q j u)))
   simple_leads (x.Compound y o q i) s = next (left_leads y s) (λ l t. next (right_leads i t) (λ j u. from (λ h. (h.0.1, h.1)) (compounded_leads l (compound_of o) q j u)))

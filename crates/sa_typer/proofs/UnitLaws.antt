@@ -1,5 +1,5 @@
 -- What typing accepts is typed, and has no more cells than may be.
-use Rattle.std.proofs.Common.{◌≡◌, ℕ, zero, suc, ◌+◌, ◌<◌, ◌≤◌, ℤ, pos, Bool, true, false, List, [], ◌∷◌, ◌++◌, length, map, refl, sym, ap, subst, ◌∙◌, arith, Option, Some, None}
+use Rattle.std.proofs.Common.{◌≡◌, ℕ, zero, suc, ◌+◌, ◌<◌, ◌≤◌, ℤ, pos, Bool, true, false, ◌&&◌, List, [], ◌∷◌, ◌++◌, length, map, refl, sym, ap, subst, ◌∙◌, arith, Option, Some, None}
 use Rattle.std.proofs.lemmas.Bool.Decides.{nat_tests}
 use Rattle.std.proofs.lemmas.List.{length-append}
 use Rattle.std.specs.Prelude.{if◌then◌else◌, slice_get, nat_le, reverse}
@@ -16,7 +16,8 @@ use Rattle.sa_syntax.specs.declared.unit.Unit.{Unit as Source}
 use Rattle.sa_typed.specs.Cells as typed_cells
 use Rattle.sa_typed.specs.Cells.{Inner, cell_of, cells_of, cells_at, is_global, is_static, is_local, inner_cells}
 use Rattle.sa_typed.specs.Layouts.{shape_layout, layout_of, var_layout}
-use Rattle.sa_typed.specs.WellTyped.{IsTyped, IsTypedStmt, HasTypedItems}
+use Rattle.sa_typed.specs.TypedPrograms.{IsTypedProgram}
+use Rattle.sa_typed.specs.WellTyped.{IsTyped, IsTypedStmt}
 use Rattle.sa_typed.specs.Executions.{main_of}
 use Rattle.sa_typed.specs.declared.program.Home.{Home}
 use Rattle.sa_typed.specs.declared.program.Home.TheVariants as home
@@ -39,11 +40,12 @@ use Rattle.sa_typer.specs.Bodies as body
 use Rattle.sa_typer.specs.Bodies.{block, clock_stmt, no_body, main_by, main_item, main_items, main_block, clock_loop}
 use Rattle.sa_typer.specs.Units as unit
 use Rattle.sa_syntax.specs.Forms.{is_main}
-use Rattle.sa_typer.specs.Units.{plain_type, type_name, first_main, main, blank, Answer, Accepts, Refuses, TooManyCells, has_entry, program, cells, result_of, result_cells, refusals_by, refusals_in, refusals, accepted_by, accepted_in, unless_refused, answer}
+use Rattle.sa_typer.specs.Units.{plain_type, type_name, first_main, main, blank, Answer, Accepts, Refuses, TooManyCells, is_entry, is_entry_type, has_entry, program, cells, result_of, result_cells, refusals_by, refusals_in, refusals, accepted_by, accepted_in, unless_refused, answer}
 use Rattle.sa_scopes.specs.Refusals.{least_of}
 use Rattle.sa_scopes.specs.Typing.{Typed, Typing, Gives, and_then, pure, each, fault}
 use Rattle.sa_scopes.proofs.StructLaws.{RefersBelow, DefsBelow, IsFront, weight, cells_weight, AreSized, size_weight, sizes_known}
-use Rattle.sa_operands.proofs.RowLaws.{AllStmts, stmts_append, block_typed, clock_typed}
+use Rattle.sa_operands.proofs.RowLaws.{AllStmts}
+use Rattle.sa_typer.proofs.ProgramLaws.{EndsInClock, IsMainList, main_typed, program_typed}
 use Rattle.sa_scopes.proofs.WalkLaws.{Ends, Later, no_fault, Well, IsSound, Leads, Any, state, value, gives, refuses, refusal, bind, next, from, free, either, one_of, unless, all_parts}
 use Rattle.sa_typer.proofs.RefusalLaws.{least_none, unrefused}
 use Rattle.sa_operands.proofs.TypeLaws.{GoodTy, qualifiers_leads}
@@ -64,15 +66,24 @@ module _ (p : Program) where
   block_leads is s = scoped_leads p (body.items is []) s (all_leads is s)
 
   abbrev GoodBody : Body → Type 0
-  GoodBody b = AllStmts p b.stmts
+  GoodBody b = IsMainList p b.clock b.stmts
 
-  main_by_leads : (o : Option (List BlockItem)) (i : BlockItem) (b : Body) (s : Typer) → Leads p (GoodBody b) s (λ b t. GoodBody b) (main_by o i b s)
-  main_by_leads (Some before) i b s = next (block_leads before s) (λ ss t. gives (λ w h e. stmts_append p b.stmts (clock_stmt (item_pos i) ss) h.0 (clock_typed p (item_pos i) ss h.1)))
-  main_by_leads None i b s = next (part_leads i b.stmts s) (λ ss t. gives (λ w h e. h.1))
+  before_clock : (b : Body) → GoodBody b → b.clock ≡ false → AllStmts p b.stmts
+  before_clock b h e = subst (λ (c : Bool). IsMainList p c b.stmts) e h
+
+  with_clock : (b : Body) (q : Pos) (ss : List Stmt) → AllStmts p b.stmts → AllStmts p ss → GoodBody (record { stmts = b.stmts ++ clock_stmt q ss ∷ []; clock = true })
+  with_clock b q ss h k = record { before = b.stmts; place = q; turn = ss; is = refl; befores = h; turns = k }
+
+  without_clock : (b : Body) (ss : List Stmt) → b.clock ≡ false → AllStmts p ss → GoodBody (record b { stmts = ss })
+  without_clock b ss e h = subst (λ (c : Bool). IsMainList p c ss) (sym e) h
+
+  main_by_leads : (o : Option (List BlockItem)) (i : BlockItem) (b : Body) (s : Typer) → Leads p (GoodBody b × (b.clock ≡ false)) s (λ b t. GoodBody b) (main_by o i b s)
+  main_by_leads (Some before) i b s = next (block_leads before s) (λ ss t. gives (λ w h e. with_clock b (item_pos i) ss (before_clock b h.0.0 h.0.1) h.1))
+  main_by_leads None i b s = next (from (λ h. (before_clock b h.0 h.1)) (part_leads i b.stmts s)) (λ ss t. gives (λ w h e. without_clock b ss h.0.1 h.1))
 
   main_item_leads : (i : BlockItem) (b : Body) (s : Typer) → Leads p (GoodBody b) s (λ b t. GoodBody b) (main_item i b s)
   unfolding main_item
-  main_item_leads i b s = next (unless b.clock 23 (item_pos i)) (λ a t. from (λ h. h.0) (main_by_leads (clock_loop i) i b t))
+  main_item_leads i b s = next (unless b.clock 23 (item_pos i)) (λ a t. main_by_leads (clock_loop i) i b t)
 
   main_block_leads : {X : Type 0} (is : List BlockItem) (s : Typer) → Leads p X s (λ b t. GoodBody b) (main_block is s)
   unfolding main_block
@@ -90,7 +101,7 @@ module _ (p : Program) where
 
   abbrev GoodEntry : Option Entry → Type 0
   GoodEntry None = Unit {0}
-  GoodEntry (Some e) = AllStmts p e.body.stmts
+  GoodEntry (Some e) = GoodBody e.body
 
   first_main_leads : {X : Type 0} (x : Name) (ty : Ty) (b : Block) (s : Typer) → Leads p X s (λ o t. GoodEntry o) (first_main x ty b s)
   first_main_leads x ty b s =
@@ -171,18 +182,32 @@ module _ (p : Program) where
       f ∙ d
 
 -- ---- what is accepted
+both_left : (a b : Bool) → (a && b) ≡ true → a ≡ true
+both_left true b h = refl
+both_left false b h = cc
+
+both_right : (a b : Bool) → (a && b) ≡ true → b ≡ true
+both_right true b h = h
+both_right false b h = cc
+
 -- the program is what the walk ends in
 record Accepted (o : Option Entry) (s : Typer) (p : Program) : Type 0 where
   ends : Ends p s
   vars : p.vars ≡ s.vars
   body : GoodEntry p o → IsTypedStmt p (main_of p)
+  program : GoodEntry p o → Well p s → IsTypedProgram p
   few : cells_in s.structs (map var_shape s.vars) ≤ 65536
 
-own_program : (s : Typer) (e : Entry) → s.faults ≡ [] → cells_in s.structs (map var_shape s.vars) ≤ 65536 → Accepted (Some e) s (program s e)
-own_program s e h k = record {
+main_list : (p : Program) (b : Body) → b.clock ≡ true → GoodBody p b → EndsInClock p b.stmts
+main_list p b e h = subst (λ (c : Bool). IsMainList p c b.stmts) e h
+
+own_program : (s : Typer) (e : Entry) → is_entry e ≡ true → s.faults ≡ [] → cells_in s.structs (map var_shape s.vars) ≤ 65536 → Accepted (Some e) s (program s e)
+own_program s e m h k = record {
   ends = record { clear = h; structs = λ k x g. g; vars = λ k x g. g; inputs = λ k x g. g };
   vars = refl;
-  body = λ b. block_typed (program s e) e.body.stmts b;
+  body = λ b. main_typed (program s e) e.body.stmts (main_list (program s e) e.body (both_left e.body.clock (is_entry_type e.result) m) b);
+  program = λ b w. program_typed s e (both_right e.body.clock (is_entry_type e.result) m) (λ k v g. (w.vars k v g).home) (λ k v g. (w.vars k v g).items)
+      (main_list (program s e) e.body (both_left e.body.clock (is_entry_type e.result) m) b);
   few = k;
 }
 
@@ -193,22 +218,27 @@ few_cells s e h =
     let most : limit_number Cells ≡ 65536 = refl in
     omega (arith, all, most)
 
-of_cells : (b : Bool) (s : Typer) (e : Entry) (p : Program) → nat_le (cells s e) (limit_number Cells) ≡ b → s.faults ≡ [] → (if b then Accepts (program s e) else TooManyCells) ≡ Accepts p → Accepted (Some e) s p
-of_cells true s e p k h g = let same : program s e ≡ p = cc in subst (Accepted (Some e) s) same (own_program s e h (few_cells s e k))
-of_cells false s e p k h g = cc
+of_cells : (b : Bool) (s : Typer) (e : Entry) (p : Program) → nat_le (cells s e) (limit_number Cells) ≡ b → is_entry e ≡ true → s.faults ≡ [] → (if b then Accepts (program s e) else TooManyCells) ≡ Accepts p → Accepted (Some e) s p
+of_cells true s e p k m h g = let same : program s e ≡ p = cc in subst (Accepted (Some e) s) same (own_program s e m h (few_cells s e k))
+of_cells false s e p k m h g = cc
 
-of_entry : (o : Option Entry) (s : Typer) (p : Program) → s.faults ≡ [] → accepted_by o s ≡ Accepts p → Accepted o s p
-of_entry None s p h g = cc
-of_entry (Some e) s p h g = of_cells (nat_le (cells s e) (limit_number Cells)) s e p refl h g
+of_entry : (o : Option Entry) (s : Typer) (p : Program) → has_entry o ≡ true → s.faults ≡ [] → accepted_by o s ≡ Accepts p → Accepted o s p
+of_entry None s p m h g = cc
+of_entry (Some e) s p m h g = of_cells (nat_le (cells s e) (limit_number Cells)) s e p refl m h g
 
 none_refused : (b : Bool) (fs : List Fault) (f : Fault) → (if b then fs else (fs ++ f ∷ [])) ≡ [] → fs ≡ []
 none_refused true fs f h = h
 none_refused false fs f h = absurd (no_fault fs f h)
 
+has_one : (b : Bool) (fs : List Fault) (f : Fault) → (if b then fs else (fs ++ f ∷ [])) ≡ [] → b ≡ true
+has_one true fs f h = refl
+has_one false fs f h = absurd (no_fault fs f h)
+
 of_walk : (end : Pos) (t : Typed (Option Entry)) (p : Program) → unless_refused (least_of (refusals_in end t)) (accepted_in t) ≡ Accepts p → Accepted (value t) (state t) p
 of_walk end (Gives o s) p g =
     let least = unrefused (least_of (refusals_by end o s)) (accepted_by o s) p g in
-    of_entry o s p (none_refused (has_entry o) s.faults (fault 22 end) (least_none (refusals_by end o s) least.0)) least.1
+    let none = least_none (refusals_by end o s) least.0 in
+    of_entry o s p (has_one (has_entry o) s.faults (fault 22 end) none) (none_refused (has_entry o) s.faults (fault 22 end) none) least.1
 
 module _ (u : Source) (end : Pos) (p : Program) (h : answer u end ≡ Accepts p) where
   walk : Typed (Option Entry)
@@ -228,6 +258,10 @@ module _ (u : Source) (end : Pos) (p : Program) (h : answer u end ≡ Accepts p)
     body = is.body good.1;
     items = λ k v g. (good.0.vars k v (ap (λ (vs : List Var). slice_get vs k) (sym is.vars) ∙ g)).items;
   }
+
+  -- in the terms that cover every form of the language
+  pub accepted_program : IsTypedProgram p
+  accepted_program = is.program good.1 good.0
 
   -- and has no more cells than may be
   pub accepted_small : length (typed_cells.cells p) ≤ 65536

@@ -4,6 +4,7 @@ ghost use Rattle.std.specs.Prelude.{◌≡◌, ◌≤◌, None, IfOk, IfErr, len
 ghost use Rattle.sa_base.specs.Numbers.{limit_number};
 ghost use Rattle.sa_base.specs.declared.limit.Limit.TheVariants.{Cells};
 ghost use Rattle.sa_typed.specs.Cells.{cells};
+ghost use Rattle.sa_typed.specs.TypedPrograms.{IsTypedProgram};
 ghost use Rattle.sa_typed.specs.WellTyped.{IsTyped};
 ghost use Rattle.sa_typer.specs.Units as spec;
 ghost use Rattle.sa_typer.specs.Units.{Accepts, Tells};
@@ -307,11 +308,12 @@ fn answer(alloc: Global, unit: &Unit, end: Pos) -> Result<Program, TypeFault>
 /// The typed program of a tree whose text ends there. It is refused by the least refusal of the text: the one with the least
 /// place, and of those the one with the least rule; where nothing is refused, by the limit of cells. `specs/` has the rules
 /// with their sources in ISO C. Each form in the tree has to be one that is analysed, as `first_unbuilt` of `sa_unbuilt` tells.
-#[tactic(auto, using(crate::proofs::AnswerLemmas::told_accepted, crate::proofs::AnswerLemmas::told_typed, crate::proofs::AnswerLemmas::told_small, crate::proofs::AnswerLemmas::told_refused))]
+#[tactic(auto, using(crate::proofs::AnswerLemmas::told_accepted, crate::proofs::AnswerLemmas::told_typed, crate::proofs::AnswerLemmas::told_program, crate::proofs::AnswerLemmas::told_small, crate::proofs::AnswerLemmas::told_refused))]
 pub fn type_unit(alloc: Global, unit: &Unit, end: Pos) -> Result<Program, TypeFault>
     requires { IsBuilt unit.now }
     ensures accepted { IfOk result (λ p. spec.answer unit.now end ≡ Accepts p) }
-    ensures typed { IfOk result IsTyped }
+    ensures typed { IfOk result IsTypedProgram }
+    ensures straight { IfOk result IsTyped }
     ensures small { IfOk result (λ p. length (cells p) ≤ 65536) }
     ensures refused { IfErr result (IsFault unit.now end) }
 {
