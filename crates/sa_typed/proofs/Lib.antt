@@ -1,6 +1,7 @@
 pub mod ArithmeticLaws
 mod EvaluationSamples
 mod CallSamples
+mod TypedSamples
 mod ExecutionSamples
 pub mod LinkLaws
 pub mod OperandLaws
