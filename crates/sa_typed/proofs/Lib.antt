@@ -8,4 +8,5 @@ pub mod OperandLaws
 mod Sample
 pub mod ProgressLaws
 pub mod DepthLaws
+pub mod RunLaws
 pub mod SpanLaws

@@ -8,7 +8,7 @@ use Rattle.sa_typed.specs.Arithmetic.{is_of}
 use Rattle.sa_typed.specs.Executions.{main_of}
 use Rattle.sa_typed.specs.Layouts.{leaf, rows, layout_with, layout_of}
 use Rattle.sa_typed.specs.WellTyped.{type_of, converts, steps_layout, HasTypedItems}
-use Rattle.sa_typed.specs.TypedExpressions.{IsTypedExpression, variables_in, IsExpression, IsPlace, IsLeftSide}
+use Rattle.sa_typed.specs.TypedExpressions.{IsTypedExpression, IsPromoted, variables_in, IsExpression, IsPlace, IsLeftSide}
 use Rattle.sa_typed.specs.TypedPrograms.{IsBody, IsMainBody, AreDistinct, AreArguments, all_labels, IsStatement, IsBlock, IsTurn, IsMainBlock, calls_in, loops_at, calls_of, IsFunction, AreRanked, IsTypedProgram}
 use Rattle.sa_typed.specs.declared.expr.Access.{Access}
 use Rattle.sa_typed.specs.declared.expr.Expr.{Expr}
@@ -69,40 +69,40 @@ calling = program_with (callee ∷ []) [] (int home.Global ∷ int (home.Local 1
 
 -- ---- expressions
 main_reads : IsExpression calling 0 (value 4)
-unfolding IsTypedExpression variables_in steps_layout layout_of layout_with rows hidden-the_row-Step-0 denote.Hole.Carrier.hidden
-main_reads = record { typed = (tt, refl); named = (refl, tt) }
+unfolding IsTypedExpression IsPromoted variables_in steps_layout layout_of layout_with rows hidden-the_row-Step-0 denote.Hole.Carrier.hidden
+main_reads = record { typed = (tt, refl); promoted = tt; named = (refl, tt) }
 
 callee_reads : IsExpression calling 1 (value 2)
-unfolding IsTypedExpression variables_in steps_layout layout_of layout_with rows hidden-the_row-Step-0 denote.Hole.Carrier.hidden
-callee_reads = record { typed = (tt, refl); named = (refl, tt) }
+unfolding IsTypedExpression IsPromoted variables_in steps_layout layout_of layout_with rows hidden-the_row-Step-0 denote.Hole.Carrier.hidden
+callee_reads = record { typed = (tt, refl); promoted = tt; named = (refl, tt) }
 
 literal : (f n : ℕ) → is_of I32 (pos n) ≡ true → IsExpression calling f (number n)
-unfolding IsTypedExpression variables_in
-literal f n h = record { typed = h; named = tt }
+unfolding IsTypedExpression IsPromoted variables_in
+literal f n h = record { typed = h; promoted = tt; named = tt }
 
 and_reads : IsExpression calling 1 (e.And (value 2) (value 0 ∷ []))
-unfolding IsTypedExpression variables_in steps_layout layout_of layout_with rows hidden-the_row-Step-0 hidden-the_row-Expr-1 hidden-the_row-Expr-3 denote.Hole.Carrier.hidden
-and_reads = record { typed = ((tt, refl), ((tt, refl), tt)); named = (refl, (refl, tt)) }
+unfolding IsTypedExpression IsPromoted variables_in steps_layout layout_of layout_with rows hidden-the_row-Step-0 hidden-the_row-Expr-1 hidden-the_row-Expr-3 denote.Hole.Carrier.hidden
+and_reads = record { typed = ((tt, refl), ((tt, refl), tt)); promoted = (tt, (tt, tt)); named = (refl, (refl, tt)) }
 
 sum_reads : IsExpression calling 1 next_of
-unfolding IsTypedExpression variables_in steps_layout layout_of layout_with rows type_of converts hidden-the_row-Step-0 hidden-the_row-Expr-1 hidden-the_row-Link-2 denote.Hole.Carrier.hidden
-sum_reads = record { typed = ((tt, refl), (refl, (record { first = refl; second = refl }, tt))); named = (refl, tt) }
+unfolding IsTypedExpression IsPromoted variables_in steps_layout layout_of layout_with rows type_of converts hidden-the_row-Step-0 hidden-the_row-Expr-1 hidden-the_row-Link-2 denote.Hole.Carrier.hidden
+sum_reads = record { typed = ((tt, refl), (refl, (record { first = refl; second = refl }, tt))); promoted = (tt, (tt, tt)); named = (refl, tt) }
 
 choice_reads : IsExpression calling 0 (e.Choice (value 4) (number 1) (number 2) I32)
-unfolding IsTypedExpression variables_in steps_layout layout_of layout_with rows type_of converts hidden-the_row-Step-0 hidden-the_row-Expr-1 denote.Hole.Carrier.hidden
-choice_reads = record { typed = ((tt, refl), ((refl, refl), (refl, refl))); named = (refl, tt) }
+unfolding IsTypedExpression IsPromoted variables_in steps_layout layout_of layout_with rows type_of converts hidden-the_row-Step-0 hidden-the_row-Expr-1 denote.Hole.Carrier.hidden
+choice_reads = record { typed = ((tt, refl), ((refl, refl), (refl, refl))); promoted = (tt, (tt, tt)); named = (refl, tt) }
 
 global_left : (f : ℕ) → IsLeftSide calling f (leaf I32) (whole 0)
-unfolding IsTypedExpression variables_in steps_layout layout_of layout_with rows hidden-the_row-Step-0 denote.Hole.Carrier.hidden
-global_left f = record { place = record { typed = (tt, refl); named = (refl, tt) }; variable = refl }
+unfolding IsTypedExpression IsPromoted variables_in steps_layout layout_of layout_with rows hidden-the_row-Step-0 denote.Hole.Carrier.hidden
+global_left f = record { place = record { typed = (tt, refl); promoted = tt; named = (refl, tt) }; variable = refl }
 
 local_left : IsLeftSide calling 0 (leaf I32) (whole 4)
-unfolding IsTypedExpression variables_in steps_layout layout_of layout_with rows hidden-the_row-Step-0 denote.Hole.Carrier.hidden
-local_left = record { place = record { typed = (tt, refl); named = (refl, tt) }; variable = refl }
+unfolding IsTypedExpression IsPromoted variables_in steps_layout layout_of layout_with rows hidden-the_row-Step-0 denote.Hole.Carrier.hidden
+local_left = record { place = record { typed = (tt, refl); promoted = tt; named = (refl, tt) }; variable = refl }
 
 reference_left : IsLeftSide calling 1 (leaf I32) (whole 1)
-unfolding IsTypedExpression variables_in steps_layout layout_of layout_with rows hidden-the_row-Step-0 denote.Hole.Carrier.hidden
-reference_left = record { place = record { typed = (tt, refl); named = (refl, tt) }; variable = refl }
+unfolding IsTypedExpression IsPromoted variables_in steps_layout layout_of layout_with rows hidden-the_row-Step-0 denote.Hole.Carrier.hidden
+reference_left = record { place = record { typed = (tt, refl); promoted = tt; named = (refl, tt) }; variable = refl }
 
 -- ---- statements
 labels_differ : AreDistinct (Default ∷ Case (pos 0) ∷ [])
@@ -121,10 +121,16 @@ callee_body = inr (inl refl, inr ((callee_reads, (((reference_left, and_reads), 
 main_body : IsMainBody calling 0 None (main_of calling)
 unfolding IsMainBlock IsTurn IsStatement AreArguments all_labels type_of layout_of layout_with rows hidden-the_row-Stmt-0 hidden-the_row-Stmt-1 hidden-the_row-Group-2 hidden-the_row-Step-0 denote.Hole.Carrier.hidden
 main_body =
-    inl
-    ((inr (inr refl,
-    inr ((((refl, global_left 0), ((refl, literal 0 6 refl), tt)), local_left),
-    inr (((main_reads, refl), (record { typed = (tt, (refl, tt)); distinct = labels_differ }, ((global_left 0, literal 0 7 refl), ((global_left 0, choice_reads), tt)))), inl (tt, tt))))), tt)
+    inl (
+      (inr (
+        inr refl,
+        inr (
+          (((refl, global_left 0), ((refl, literal 0 6 refl), tt)), local_left),
+          inr (((main_reads, refl), (record { typed = (tt, (refl, tt)); distinct = labels_differ }, ((global_left 0, literal 0 7 refl), ((global_left 0, choice_reads), tt)))), inl (tt, tt)),
+        ),
+      )),
+      tt,
+    )
 
 -- ---- the program
 one_alone : {A : Type 0} (a : A) → AreDistinct (a ∷ [])
