@@ -13,7 +13,8 @@ use Rattle.sa_syntax.specs.declared.expr.PlaceBase.TheVariants as base
 use Rattle.sa_typed.specs.Arithmetic.{is_of, promoted, common, literal_type, result_type, prefix_type}
 use Rattle.sa_typed.specs.Constants.{is_constant}
 use Rattle.sa_typed.specs.Layouts.{Layout, leaf, row, fields, layout_with, layouts_with, nth_field, struct_layout, shape_layout, layout_of, var_layout}
-use Rattle.sa_typed.specs.WellTyped.{type_of, converts, right_converts, typed_step, into, num_of_input, IsLink, IsTypedExpr, IsTypedAccess, IsFixedAccess, is_fixed_read}
+use Rattle.sa_typed.specs.TypedExpressions.{IsPromoted}
+use Rattle.sa_typed.specs.WellTyped.{type_of, converts, right_converts, typed_step, into, num_of_input, IsLink, IsTypedAccess, IsFixedAccess, is_fixed_read}
 use Rattle.sa_typed.specs.declared.expr.Access.{Access}
 use Rattle.sa_typed.specs.declared.expr.Expr.{Expr}
 use Rattle.sa_typed.specs.declared.expr.Expr.TheVariants as e
@@ -46,13 +47,13 @@ use Rattle.sa_scopes.specs.Values as values
 use Rattle.sa_scopes.specs.Values.{literal_value, prefix_value, cast_value, miscast_value, operator_value, value_of, constant}
 use Rattle.sa_operands.specs.Operands.{stand_in, some_number, sort_of, is_object, known_value, expr_or, literal_number, literal, is_comparison, by_itself, with_threshold, beside, no_object, no_number, prefixed, cast_to, miscast, cast, operator_of, left_of, some_left, link, linked_numbers, linked_by, linked, chained}
 use Rattle.sa_scopes.specs.Typing.{Typed, Typing, Gives, and_then, pure, refused}
-use Rattle.sa_operands.proofs.RowLaws.{NamesVariable, AllSteps, list_layout, all_fixed, steps_append, layout_append, fixed_append, read_typed, access_typed, access_fixed, at_typed, field_typed, at_fixed, field_fixed, AllLinks, after_links, all_constant, links_append, after_append, constant_append, number_typed, input_typed, prefix_typed, cast_typed, chain_typed, type_number, type_input, type_read, type_prefix, type_cast, type_chain, constant_number, constant_prefix, constant_cast, constant_chain}
+use Rattle.sa_operands.proofs.RowLaws.{GoodExpr, NamesVariable, AllSteps, list_layout, all_fixed, steps_append, layout_append, fixed_append, read_typed, access_typed, access_fixed, at_typed, field_typed, at_fixed, field_fixed, AllLinks, after_links, all_constant, links_append, after_append, constant_append, number_typed, input_typed, prefix_typed, cast_typed, chain_typed, type_number, type_input, type_read, type_prefix, type_cast, type_chain, constant_number, constant_prefix, constant_cast, constant_chain}
 use Rattle.sa_scopes.proofs.WalkLaws.{Ends, Later, Well, Leads, Any, gives, refuses, refusal, bind, next, from, so, either, unless}
 
 -- ---- promises
 -- a number with that type, of which that is known
 pub record IsGood (p : Program) (x : Expr) (num : Num) (w : Value) : Type 0 where
-  pub typed : IsTypedExpr p x
+  pub typed : GoodExpr p x
   pub is : type_of x ≡ num
   pub constant : values.is_constant w ≡ true → is_constant x ≡ true
 
@@ -60,6 +61,7 @@ pub record IsGood (p : Program) (x : Expr) (num : Num) (w : Value) : Type 0 wher
 pub record LeadsTo (p : Program) (l : Layout) (fixed : Bool) (x : Access) : Type 0 where
   pub typed : IsTypedAccess p l x
   pub named : NamesVariable p (e.Read x I32)
+  pub promoted : IsPromoted (e.Read x I32)
   pub constant : fixed ≡ true → is_fixed_read (e.Read x I32) ≡ true
 
 abbrev pub struct_in : Program → ℕ → Layout
@@ -73,7 +75,7 @@ GoodOperand p a.Unknown = ⊥
 
 -- a chain so far
 pub record IsChain (p : Program) (l : Left) (num : Num) : Type 0 where
-  pub first : IsTypedExpr p l.first
+  pub first : GoodExpr p l.first
   pub links : AllLinks p (type_of l.first) l.links
   pub is : after_links (type_of l.first) l.links ≡ num
   pub first_constant : values.is_constant l.value ≡ true → is_constant l.first ≡ true
@@ -108,9 +110,9 @@ module _ (p : Program) where
   pub one_good : IsGood p (e.Number 1 I32) I32 Varies
   one_good = record { typed = number_typed p 1 I32 refl; is = type_number 1 I32; constant = λ h. constant_number 1 I32 }
 
-  literal_typed : (num : Num) (v : ℕ) → IsTypedExpr p (e.Number (literal_number num v) num)
+  literal_typed : (num : Num) (v : ℕ) → GoodExpr p (e.Number (literal_number num v) num)
   literal_typed num v =
-      elim (is_of num (pos v)) as (λ b. is_of num (pos v) ≡ b → IsTypedExpr p (e.Number (if b then v else 0) num)) [
+      elim (is_of num (pos v)) as (λ b. is_of num (pos v) ≡ b → GoodExpr p (e.Number (if b then v else 0) num)) [
         | true ↦ λ h. number_typed p v num h
         | false ↦ λ h. number_typed p 0 num (zero_fits num)
       ] refl
@@ -233,7 +235,7 @@ module _ (p : Program) where
 
   prefix_good : (o : Prefix) (q : Pos) (x : Expr) (num : Num) (w : Value) → IsGood p x num w → IsGood p (e.Prefix o q (promoted num) x) (prefix_type o (promoted num)) (prefix_value o w)
   prefix_good o q x num w h = record {
-    typed = prefix_typed p o q (promoted num) x h.typed (ap (λ (n : Num). converts n (promoted num)) h.is ∙ convert_promoted num);
+    typed = prefix_typed p o q (promoted num) x h.typed (ap (λ (n : Num). converts n (promoted num)) h.is ∙ convert_promoted num) (ap promoted (sym h.is));
     is = type_prefix o q (promoted num) x;
     constant = λ k. constant_prefix o q (promoted num) x ∙ h.constant (known_prefix o w k);
   }

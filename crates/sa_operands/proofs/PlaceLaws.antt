@@ -45,7 +45,7 @@ use Rattle.sa_operands.specs.Operands.{sort_of, is_object, known_value, expr_or}
 use Rattle.sa_operands.specs.Places.{root_by, root_of, pointed_by, pointed, spot_at, variable_at, spot_of, begun, begins, lost, deeper, stepped, indexed_with, element_of, index, to_member, field_of, field, is_known, arrow, var_of, access_of, access, reading, operand_by, operand}
 use Rattle.sa_scopes.specs.Typing.{Typed, Typing, Gives, and_then, pure, refused}
 use Rattle.sa_scopes.proofs.StructLaws.{FieldsBelow, struct_known}
-use Rattle.sa_operands.proofs.RowLaws.{AllSteps, list_layout, all_fixed, steps_append, layout_append, fixed_append, read_typed, access_typed, access_named, access_fixed, at_typed, field_typed, at_fixed, field_fixed, input_typed, type_input, type_read}
+use Rattle.sa_operands.proofs.RowLaws.{AllSteps, list_layout, all_fixed, steps_append, layout_append, fixed_append, GoodExpr, GoodStep, read_typed, access_typed, access_promoted, access_named, access_fixed, at_typed, field_typed, at_fixed, field_fixed, input_typed, type_input, type_read}
 use Rattle.sa_scopes.proofs.WalkLaws.{Ends, Later, Well, IsThere, Leads, Any, gives, refuses, refusal, bind, next, from, so, either, unless}
 use Rattle.sa_operands.proofs.OperandLaws.{IsGood, LeadsTo, GoodOperand, struct_in}
 
@@ -170,7 +170,7 @@ module _ (p : Program) where
   and_rest false y h = cc
 
   -- one step further into a variable
-  one_further : (k : ℕ) (steps : List Step) (l m : Layout) (fixed more locked kept : Bool) (x : Step) → IsPlace p k steps l fixed locked → IsTypedStep p x → typed_step l x ≡ Some m → (more ≡ true → (fixed ≡ true) × (is_fixed x ≡ true)) →
+  one_further : (k : ℕ) (steps : List Step) (l m : Layout) (fixed more locked kept : Bool) (x : Step) → IsPlace p k steps l fixed locked → GoodStep p x → typed_step l x ≡ Some m → (more ≡ true → (fixed ≡ true) × (is_fixed x ≡ true)) →
       (kept ≡ false → locked ≡ false) → IsPlace p k (steps ++ x ∷ []) m more kept
   one_further k steps l m fixed more locked kept x h t s f g = record {
     typed = steps_append p steps x h.typed t;
@@ -181,7 +181,7 @@ module _ (p : Program) where
   }
 
   -- an object that isn't a number is in a variable
-  stepped_good : (l m : Spot) (r : Root) (shape inner : Shape) (x : Step) → m.steps ≡ l.steps ++ x ∷ [] → scalar_of shape ≡ None → IsTypedStep p x →
+  stepped_good : (l m : Spot) (r : Root) (shape inner : Shape) (x : Step) → m.steps ≡ l.steps ++ x ∷ [] → scalar_of shape ≡ None → GoodStep p x →
       typed_step (shape_layout p.structs shape) x ≡ Some (shape_layout p.structs inner) → (m.fixed ≡ true → (l.fixed ≡ true) × (is_fixed x ≡ true)) → (m.locked ≡ false → l.locked ≡ false) →
       IsAt p l r (Some shape) → IsAt p m r (Some inner)
   stepped_good l m root.Nothing shape inner x e n t s f g h = h
@@ -191,7 +191,7 @@ module _ (p : Program) where
   stepped_good l m (root.Input k num) shape inner x e n t s f g h = let c = h.scalar in cc (n, c)
 
   pub record IsIndex (i : Operand) : Type 0 where
-    pub typed : IsTypedExpr p (expr_or i)
+    pub typed : GoodExpr p (expr_or i)
     pub constant : values.is_constant (known_value i) ≡ true → is_constant (expr_or i) ≡ true
 
   pub index_good : (i : Operand) → GoodOperand p i → is_object (sort_of i) ≡ false → IsIndex i
@@ -319,7 +319,7 @@ module _ (p : Program) where
 
   -- ---- the whole place
   access_good : (k : ℕ) (steps : List Step) (l : Layout) (fixed locked : Bool) → IsPlace p k steps l fixed locked → LeadsTo p l fixed (access_of (root.Variable k) steps)
-  access_good k steps l fixed locked h = record { typed = access_typed p k steps l h.typed h.leads; named = access_named p k steps h.named; constant = λ f. access_fixed k steps (h.constant f) }
+  access_good k steps l fixed locked h = record { typed = access_typed p k steps l h.typed h.leads; named = access_named p k steps h.named; promoted = access_promoted p k steps h.typed; constant = λ f. access_fixed k steps (h.constant f) }
 
   operand_by_leads : (l : Spot) (r : Root) (ns : List ℕ) (t : Plain) → IsAt p l r (Some (shaped ns t)) → GoodOperand p (operand_by (record l { root = r }) (Some (form_by ns t)))
   unfolding layout_with rows

@@ -4,11 +4,11 @@ use Rattle.std.specs.Prelude.{IsTrue, slice_get}
 use Rattle.sa_base.specs.declared.num.Num.{Num}
 use Rattle.sa_base.specs.declared.num.Num.TheVariants.{I32}
 use Rattle.sa_base.specs.declared.pos.Pos.{Pos}
-use Rattle.sa_typed.specs.Arithmetic.{is_of, result_type, prefix_type}
+use Rattle.sa_typed.specs.Arithmetic.{is_of, promoted, result_type, prefix_type}
 use Rattle.sa_typed.specs.Constants.{is_constant, are_constant, is_fixed}
 use Rattle.sa_typed.specs.Layouts.{Layout, leaf, row, fields, nth_field, layout_of}
 use Rattle.sa_typed.specs.WellTyped.{type_of, links_type, converts, typed_step, into, steps_layout, num_of_input, IsLink, IsTypedExpr, AreTypedLinks, AreTypedSteps, IsTypedStep, are_fixed, is_fixed_read, IsRead, IsTypedAccess, IsFixedAccess, IsTypedSimple, IsTypedStmt, AreTypedStmts}
-use Rattle.sa_typed.specs.TypedExpressions.{IsNamed, IsVariable, ChangesVariable}
+use Rattle.sa_typed.specs.TypedExpressions.{IsPromoted, ArePromotedLinks, ArePromotedSteps, IsPromotedStep, IsNamed, IsVariable, ChangesVariable}
 use Rattle.sa_typed.specs.TypedPrograms.{IsOwn}
 use Rattle.sa_typed.specs.declared.expr.Access.{Access, roll-Access}
 use Rattle.sa_typed.specs.declared.expr.Expr.{Expr, Number, Read', Input, Prefix', Cast', Chain', end_of-Expr, more_of-Expr, Row_of-Link, end_of-Link, more_of-Link, items-the_row-Link, items_hidden-the_row-Link-2, Row_of-Step, end_of-Step, more_of-Step, items-the_row-Step, items_hidden-the_row-Step-0}
@@ -20,16 +20,25 @@ use Rattle.sa_typed.specs.declared.expr.Step.{Step, At', Field}
 use Rattle.sa_typed.specs.declared.expr.Step.TheVariants as step
 use Rattle.sa_typed.specs.declared.program.Input as program
 use Rattle.sa_typed.specs.declared.program.Program.{Program}
+use Rattle.sa_typed.specs.declared.stmt.Start.{Start}
+use Rattle.sa_typed.specs.declared.stmt.Start.TheVariants as begins
 use Rattle.sa_typed.specs.declared.stmt.Simple.{Simple}
 use Rattle.sa_typed.specs.declared.stmt.Simple.TheVariants.{Declare, Assign, Compound, Copy}
 use Rattle.sa_typed.specs.declared.stmt.LoopKind.TheVariants as kind
 use Rattle.sa_typed.specs.declared.stmt.Stmt.{Stmt, Row_of-Stmt, end_of-Stmt, more_of-Stmt, items-the_row-Stmt, items_hidden-the_row-Stmt-0}
 use Rattle.sa_typed.specs.declared.stmt.Stmt.TheVariants as s
 
+-- typed, and with operators before operands in promoted types
+abbrev pub GoodExpr : Program → Expr → Type 0
+GoodExpr p a = IsTypedExpr p a × IsPromoted a
+
+abbrev pub GoodStep : Program → Step → Type 0
+GoodStep p x = IsTypedStep p x × IsPromotedStep x
+
 -- ---- steps
 unfoldable pub AllSteps : Program → List Step → Type 0
 AllSteps p [] = Unit {0}
-AllSteps p (x ∷ xs) = IsTypedStep p x × AllSteps p xs
+AllSteps p (x ∷ xs) = GoodStep p x × AllSteps p xs
 
 unfoldable pub list_layout : Option Layout → List Step → Option Layout
 list_layout o [] = o
@@ -39,7 +48,7 @@ unfoldable pub all_fixed : List Step → Bool
 all_fixed [] = true
 all_fixed (x ∷ xs) = is_fixed x && all_fixed xs
 
-pub steps_append : (p : Program) (xs : List Step) (x : Step) → AllSteps p xs → IsTypedStep p x → AllSteps p (xs ++ x ∷ [])
+pub steps_append : (p : Program) (xs : List Step) (x : Step) → AllSteps p xs → GoodStep p x → AllSteps p (xs ++ x ∷ [])
 unfolding AllSteps
 steps_append p [] x h k = (k, tt)
 steps_append p (y ∷ xs) x h k = (h.0, steps_append p xs x h.1 k)
@@ -68,7 +77,12 @@ fixed_append (y ∷ xs) x h k = both_fixed (is_fixed y) (all_fixed (xs ++ x ∷ 
 steps_row : (p : Program) (n : _) (r : Row_of-Step n) → AllSteps p (items-the_row-Step n r) → AreTypedSteps p r
 unfolding AllSteps IsTypedExpr
 steps_row p n end_of-Step h = tt
-steps_row p n (more_of-Step x rest) h = (h.0, steps_row p _ rest h.1)
+steps_row p n (more_of-Step x rest) h = (h.0.0, steps_row p _ rest h.1)
+
+promoted_row : (p : Program) (n : _) (r : Row_of-Step n) → AllSteps p (items-the_row-Step n r) → ArePromotedSteps r
+unfolding AllSteps IsPromoted
+promoted_row p n end_of-Step h = tt
+promoted_row p n (more_of-Step x rest) h = (h.0.1, promoted_row p _ rest h.1)
 
 layout_row : (n : _) (r : Row_of-Step n) (o : Option Layout) → steps_layout o r ≡ list_layout o (items-the_row-Step n r)
 unfolding steps_layout list_layout
@@ -85,17 +99,22 @@ steps_of (Read' v n r num) = (_, r)
 steps_of _ = (_, end_of-Step)
 
 module _ (p : Program) where
-  pub read_typed : (k : ℕ) (xs : List Step) (num : Num) → AllSteps p xs → list_layout (Some (layout_of p k)) xs ≡ Some (leaf num) → IsTypedExpr p (v.Read (roll-Access (record { var = k; steps = xs })) num)
-  unfolding IsTypedExpr
+  pub read_typed : (k : ℕ) (xs : List Step) (num : Num) → AllSteps p xs → list_layout (Some (layout_of p k)) xs ≡ Some (leaf num) → GoodExpr p (v.Read (roll-Access (record { var = k; steps = xs })) num)
+  unfolding IsTypedExpr IsPromoted
   read_typed k xs num h e =
       let r = steps_of (v.Read (roll-Access (record { var = k; steps = xs })) num) in
-      (steps_row p r.0 r.1 (subst (AllSteps p) (sym (items_hidden-the_row-Step-0 xs)) h), layout_row r.0 r.1 (Some (layout_of p k)) ∙ ap (list_layout (Some (layout_of p k))) (items_hidden-the_row-Step-0 xs) ∙ e)
+      let all = subst (AllSteps p) (sym (items_hidden-the_row-Step-0 xs)) h in
+      ((steps_row p r.0 r.1 all, layout_row r.0 r.1 (Some (layout_of p k)) ∙ ap (list_layout (Some (layout_of p k))) (items_hidden-the_row-Step-0 xs) ∙ e), promoted_row p r.0 r.1 all)
 
   pub access_typed : (k : ℕ) (xs : List Step) (l : Layout) → AllSteps p xs → list_layout (Some (layout_of p k)) xs ≡ Some l → IsTypedAccess p l (roll-Access (record { var = k; steps = xs }))
   unfolding IsTypedExpr
   access_typed k xs l h e =
       let r = steps_of (v.Read (roll-Access (record { var = k; steps = xs })) I32) in
       (steps_row p r.0 r.1 (subst (AllSteps p) (sym (items_hidden-the_row-Step-0 xs)) h), layout_row r.0 r.1 (Some (layout_of p k)) ∙ ap (list_layout (Some (layout_of p k))) (items_hidden-the_row-Step-0 xs) ∙ e)
+
+pub access_promoted : (p : Program) (k : ℕ) (xs : List Step) → AllSteps p xs → IsPromoted (v.Read (roll-Access (record { var = k; steps = xs })) I32)
+unfolding IsPromoted
+access_promoted p k xs h = let r = steps_of (v.Read (roll-Access (record { var = k; steps = xs })) I32) in promoted_row p r.0 r.1 (subst (AllSteps p) (sym (items_hidden-the_row-Step-0 xs)) h)
 
 pub access_fixed : (k : ℕ) (xs : List Step) → all_fixed xs ≡ true → is_fixed_read (v.Read (roll-Access (record { var = k; steps = xs })) I32) ≡ true
 access_fixed k xs h = let r = steps_of (v.Read (roll-Access (record { var = k; steps = xs })) I32) in fixed_row r.0 r.1 ∙ ap all_fixed (items_hidden-the_row-Step-0 xs) ∙ h
@@ -116,13 +135,13 @@ module _ (p : Program) (k : ℕ) (xs : List Step) where
 
 -- each form of a step
 module _ (p : Program) where
-  pub at_typed : (q : Pos) (n : ℕ) (a : Expr) → IsTypedExpr p a → IsTypedStep p (step.At q n a)
-  unfolding IsTypedExpr Rattle.sa_typed.specs.declared.expr.Expr.TheBlock.hidden-the_row-Expr-1 denote.Hole.Carrier.hidden
+  pub at_typed : (q : Pos) (n : ℕ) (a : Expr) → GoodExpr p a → GoodStep p (step.At q n a)
+  unfolding IsTypedExpr IsPromoted Rattle.sa_typed.specs.declared.expr.Expr.TheBlock.hidden-the_row-Expr-1 denote.Hole.Carrier.hidden
   at_typed q n a h = h
 
-  pub field_typed : (k : ℕ) → IsTypedStep p (step.Field k)
-  unfolding IsTypedExpr
-  field_typed k = tt
+  pub field_typed : (k : ℕ) → GoodStep p (step.Field k)
+  unfolding IsTypedExpr IsPromoted
+  field_typed k = (tt, tt)
 
 pub at_fixed : (q : Pos) (n : ℕ) (a : Expr) → is_fixed (step.At q n a) ≡ is_constant a
 unfolding is_fixed Rattle.sa_typed.specs.declared.expr.Expr.TheBlock.hidden-the_row-Expr-1 denote.Hole.Carrier.hidden
@@ -135,7 +154,7 @@ field_fixed k = refl
 -- ---- links
 unfoldable pub AllLinks : Program → Num → List Link → Type 0
 AllLinks p left [] = Unit {0}
-AllLinks p left (x ∷ xs) = IsTypedExpr p (out-Link x).operand × (IsLink (out-Link x).op left (out-Link x).num (type_of (out-Link x).operand) × AllLinks p (result_type (out-Link x).op (out-Link x).num) xs)
+AllLinks p left (x ∷ xs) = GoodExpr p (out-Link x).operand × (IsLink (out-Link x).op left (out-Link x).num (type_of (out-Link x).operand) × AllLinks p (result_type (out-Link x).op (out-Link x).num) xs)
 
 unfoldable pub after_links : Num → List Link → Num
 after_links left [] = left
@@ -145,7 +164,7 @@ unfoldable pub all_constant : List Link → Bool
 all_constant [] = true
 all_constant (x ∷ xs) = is_constant (out-Link x).operand && all_constant xs
 
-pub links_append : (p : Program) (left : Num) (xs : List Link) (x : Link) → AllLinks p left xs → IsTypedExpr p (out-Link x).operand → IsLink (out-Link x).op (after_links left xs) (out-Link x).num (type_of (out-Link x).operand) →
+pub links_append : (p : Program) (left : Num) (xs : List Link) (x : Link) → AllLinks p left xs → GoodExpr p (out-Link x).operand → IsLink (out-Link x).op (after_links left xs) (out-Link x).num (type_of (out-Link x).operand) →
     AllLinks p left (xs ++ x ∷ [])
 unfolding AllLinks after_links
 links_append p left [] x h t l = (t, (l, tt))
@@ -166,7 +185,12 @@ constant_append (y ∷ xs) x h k =
 links_row : (p : Program) (n : _) (r : Row_of-Link n) (left : Num) → AllLinks p left (items-the_row-Link n r) → AreTypedLinks p left r
 unfolding AllLinks IsTypedExpr
 links_row p n end_of-Link left h = tt
-links_row p n (more_of-Link op q work b rest) left h = (h.0, (h.1.0, links_row p _ rest (result_type op work) h.1.1))
+links_row p n (more_of-Link op q work b rest) left h = (h.0.0, (h.1.0, links_row p _ rest (result_type op work) h.1.1))
+
+promoted_links_row : (p : Program) (n : _) (r : Row_of-Link n) (left : Num) → AllLinks p left (items-the_row-Link n r) → ArePromotedLinks r
+unfolding AllLinks IsPromoted
+promoted_links_row p n end_of-Link left h = tt
+promoted_links_row p n (more_of-Link op q work b rest) left h = (h.0.1, promoted_links_row p _ rest (result_type op work) h.1.1)
 
 after_row : (n : _) (r : Row_of-Link n) (left : Num) → links_type left r ≡ after_links left (items-the_row-Link n r)
 unfolding links_type after_links
@@ -184,27 +208,28 @@ links_of _ = (_, end_of-Link)
 
 -- ---- each form of an expression
 module _ (p : Program) where
-  pub number_typed : (n : ℕ) (num : Num) → is_of num (pos n) ≡ true → IsTypedExpr p (v.Number n num)
-  unfolding IsTypedExpr
-  number_typed n num h = h
+  pub number_typed : (n : ℕ) (num : Num) → is_of num (pos n) ≡ true → GoodExpr p (v.Number n num)
+  unfolding IsTypedExpr IsPromoted
+  number_typed n num h = (h, tt)
 
-  pub input_typed : (k : ℕ) (num : Num) → num_of_input (slice_get p.inputs k) ≡ Some num → IsTypedExpr p (v.Input k num)
-  unfolding IsTypedExpr
-  input_typed k num h = h
+  pub input_typed : (k : ℕ) (num : Num) → num_of_input (slice_get p.inputs k) ≡ Some num → GoodExpr p (v.Input k num)
+  unfolding IsTypedExpr IsPromoted
+  input_typed k num h = (h, tt)
 
-  pub prefix_typed : (op : Prefix) (q : Pos) (num : Num) (a : Expr) → IsTypedExpr p a → converts (type_of a) num ≡ true → IsTypedExpr p (v.Prefix op q num a)
-  unfolding IsTypedExpr Rattle.sa_typed.specs.declared.expr.Expr.TheBlock.hidden-the_row-Expr-1 denote.Hole.Carrier.hidden
-  prefix_typed op q num a t c = (t, c)
+  pub prefix_typed : (op : Prefix) (q : Pos) (num : Num) (a : Expr) → GoodExpr p a → converts (type_of a) num ≡ true → num ≡ promoted (type_of a) → GoodExpr p (v.Prefix op q num a)
+  unfolding IsTypedExpr IsPromoted Rattle.sa_typed.specs.declared.expr.Expr.TheBlock.hidden-the_row-Expr-1 denote.Hole.Carrier.hidden
+  prefix_typed op q num a t c e = ((t.0, c), (e, t.1))
 
-  pub cast_typed : (q : Pos) (num : Num) (a : Expr) → IsTypedExpr p a → IsTypedExpr p (v.Cast q num a)
-  unfolding IsTypedExpr Rattle.sa_typed.specs.declared.expr.Expr.TheBlock.hidden-the_row-Expr-1 denote.Hole.Carrier.hidden
+  pub cast_typed : (q : Pos) (num : Num) (a : Expr) → GoodExpr p a → GoodExpr p (v.Cast q num a)
+  unfolding IsTypedExpr IsPromoted Rattle.sa_typed.specs.declared.expr.Expr.TheBlock.hidden-the_row-Expr-1 denote.Hole.Carrier.hidden
   cast_typed q num a t = t
 
-  pub chain_typed : (a : Expr) (ls : List Link) → IsTypedExpr p a → AllLinks p (type_of a) ls → IsTypedExpr p (v.Chain a ls)
-  unfolding IsTypedExpr Rattle.sa_typed.specs.declared.expr.Expr.TheBlock.hidden-the_row-Expr-1 denote.Hole.Carrier.hidden
+  pub chain_typed : (a : Expr) (ls : List Link) → GoodExpr p a → AllLinks p (type_of a) ls → GoodExpr p (v.Chain a ls)
+  unfolding IsTypedExpr IsPromoted Rattle.sa_typed.specs.declared.expr.Expr.TheBlock.hidden-the_row-Expr-1 denote.Hole.Carrier.hidden
   chain_typed a ls t h =
       let r = links_of (v.Chain a ls) in
-      (t, links_row p r.0 r.1 (type_of a) (subst (AllLinks p (type_of a)) (sym (items_hidden-the_row-Link-2 ls)) h))
+      let all = subst (AllLinks p (type_of a)) (sym (items_hidden-the_row-Link-2 ls)) h in
+      ((t.0, links_row p r.0 r.1 (type_of a) all), (t.1, promoted_links_row p r.0 r.1 (type_of a) all))
 
 pub type_number : (n : ℕ) (num : Num) → type_of (v.Number n num) ≡ num
 unfolding type_of
@@ -249,12 +274,18 @@ constant_chain a ls h k =
     both_fixed (is_constant a) (are_constant r.1) h (constant_row r.0 r.1 ∙ ap all_constant (items_hidden-the_row-Link-2 ls) ∙ k)
 
 -- ---- statements
--- what is declared is a local of main, and what is assigned to may change
+-- the value that a local begins with
+abbrev pub IsPromotedStart : Start → Type 0
+IsPromotedStart begins.Any = Unit {0}
+IsPromotedStart (begins.Value q a) = IsPromoted a
+IsPromotedStart begins.Items = Unit {0}
+
+-- what is declared is a local of main, what is assigned to may change, and operators work in promoted types
 abbrev pub IsFree : Program → Simple → Type 0
-IsFree p (Declare k x) = IsOwn 0 (slice_get p.vars k)
-IsFree p (Assign x num q a) = ChangesVariable p (v.Read x I32)
-IsFree p (Compound x num op q work a) = ChangesVariable p (v.Read x I32)
-IsFree p (Copy k x q y) = ChangesVariable p (v.Read x I32) × NamesVariable p (v.Read y I32)
+IsFree p (Declare k x) = IsOwn 0 (slice_get p.vars k) × IsPromotedStart x
+IsFree p (Assign x num q a) = ChangesVariable p (v.Read x I32) × (IsPromoted (v.Read x I32) × IsPromoted a)
+IsFree p (Compound x num op q work a) = ChangesVariable p (v.Read x I32) × (IsPromoted (v.Read x I32) × IsPromoted a)
+IsFree p (Copy k x q y) = (ChangesVariable p (v.Read x I32) × NamesVariable p (v.Read y I32)) × (IsPromoted (v.Read x I32) × IsPromoted (v.Read y I32))
 
 -- simple statements and blocks of them
 unfoldable mutual

@@ -14,7 +14,7 @@ use Rattle.sa_typed.specs.Arithmetic.{is_signed, IsOf, IsOperand, IsRight, wrapp
 use Rattle.sa_typed.specs.Constants.{is_constant, are_constant as row_constant, all_are_constant, constant_value, constant_links, constant_ands, constant_ors, then_ok, and_ok, or_ok, chosen_ok}
 use Rattle.sa_typed.specs.Evaluation.{is_zero}
 use Rattle.sa_typed.specs.Links.{type_after, AreTypedAfter, IsTypedPart, AreTypedParts, AreTypedOperands, HasType, HaveTypes, all_constant, are_constant, next_value, value_after, AreAfter, ands_after, ors_after, settles_and, settles_or, truth}
-use Rattle.sa_typed.specs.TypedExpressions.{IsTypedExpression, AreTypedExpressions, AreTypedLinks as AreTypedRest, AreTypedSteps as AreTypedWays}
+use Rattle.sa_typed.specs.TypedExpressions.{IsTypedExpression, AreTypedExpressions, AreSomeTyped, AreTypedLinks as AreTypedRest, AreTypedSteps as AreTypedWays}
 use Rattle.sa_typed.specs.WellTyped.{type_of, links_type, converts, right_converts, IsLink, IsTypedExpr, AreTypedLinks, AreTypedSteps}
 use Rattle.sa_typed.specs.declared.expr.Access.{Access}
 use Rattle.sa_typed.specs.declared.expr.Expr.{Expr, Number, Read', Input, Prefix', Cast', Chain', And', Or', Choice', end_of-Expr, more_of-Expr, Row_of-Expr, items-the_row-Expr, items_hidden-the_row-Expr-3, Row_of-Link, end_of-Link, more_of-Link, items-the_row-Link, items_hidden-the_row-Link-2, Row_of-Step, end_of-Step, more_of-Step}
@@ -212,6 +212,11 @@ unfolding IsTypedExpression AreTypedParts
 parts_row p n end_of-Link left t = tt
 parts_row p n (more_of-Link op q num b rest) left t = (record { operand = t.0; link = t.1.0 }, parts_row p _ rest (result_type op num) t.1.1)
 
+some_typed : (p : Program) (n : _) (r : Row_of-Expr n) → AreSomeTyped p r → AreTypedExpressions p r
+unfolding IsTypedExpression
+some_typed p n end_of-Expr t = elim t [ ]
+some_typed p n (more_of-Expr b rest) t = t
+
 typed_operands_row : (p : Program) (n : _) (r : Row_of-Expr n) → AreTypedExpressions p r → AreTypedOperands p (items-the_row-Expr n r)
 unfolding IsTypedExpression AreTypedOperands
 typed_operands_row p n end_of-Expr t = tt
@@ -328,13 +333,13 @@ module _ (p : Program) where
   unfolding IsTypedExpression Rattle.sa_typed.specs.declared.expr.Expr.TheBlock.hidden-the_row-Expr-1 denote.Hole.Carrier.hidden
   and_parts a es t =
       let row = operands_of (v.And a es) in
-      (t.0, subst (λ (xs : List Expr). AreTypedOperands p xs) (items_hidden-the_row-Expr-3 es) (typed_operands_row p row.0 row.1 t.1))
+      (t.0, subst (λ (xs : List Expr). AreTypedOperands p xs) (items_hidden-the_row-Expr-3 es) (typed_operands_row p row.0 row.1 (some_typed p row.0 row.1 t.1)))
 
   or_parts : (a : Expr) (es : List Expr) → IsTypedExpression p (v.Or a es) → IsTypedExpression p a × AreTypedOperands p es
   unfolding IsTypedExpression Rattle.sa_typed.specs.declared.expr.Expr.TheBlock.hidden-the_row-Expr-1 denote.Hole.Carrier.hidden
   or_parts a es t =
       let row = operands_of (v.Or a es) in
-      (t.0, subst (λ (xs : List Expr). AreTypedOperands p xs) (items_hidden-the_row-Expr-3 es) (typed_operands_row p row.0 row.1 t.1))
+      (t.0, subst (λ (xs : List Expr). AreTypedOperands p xs) (items_hidden-the_row-Expr-3 es) (typed_operands_row p row.0 row.1 (some_typed p row.0 row.1 t.1)))
 
   choice_parts : (a b c : Expr) (num : Num) → IsTypedExpression p (v.Choice a b c num) →
       IsTypedExpression p a × ((IsTypedExpression p b × IsTrue (converts (type_of b) num)) × (IsTypedExpression p c × IsTrue (converts (type_of c) num)))

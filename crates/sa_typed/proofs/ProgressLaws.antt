@@ -720,7 +720,7 @@ module _ (p : Program) (w : Setting) (bodies : Bodies) (calls : (f : ℕ) (act :
     group_unbroken fits (more_of-Group labels n (more_of-Stmt body end_of-Stmt) rest) c st =
         unbroken_if (fits labels) (run p w bodies act body st) (run_group p w bodies act fits rest st) (unbroken body c.0 st) (group_unbroken fits rest c.1 st)
 
-bodies_unbroken : (p : Program) (w : Setting) → ((f : ℕ) → IsClosed (block_of (slice_get p.funcs f))) → (depth f : ℕ) (act : Activation) (st : State) → IsUnbroken (bodies_of p w depth f act st)
+pub bodies_unbroken : (p : Program) (w : Setting) → ((f : ℕ) → IsClosed (block_of (slice_get p.funcs f))) → (depth f : ℕ) (act : Activation) (st : State) → IsUnbroken (bodies_of p w depth f act st)
 unfolding bodies_of
 bodies_unbroken p w closed zero f act st = tt
 bodies_unbroken p w closed (suc depth) f act st = unbroken p w (bodies_of p w depth) (bodies_unbroken p w closed depth) act (block_of (slice_get p.funcs f)) (closed f) st

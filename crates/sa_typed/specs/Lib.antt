@@ -12,5 +12,6 @@ pub mod TypedPrograms
 pub mod Depth
 pub mod Links
 pub mod Progress
+pub mod TypedRuns
 pub mod Ranges
 pub mod Gathering

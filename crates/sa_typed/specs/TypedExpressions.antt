@@ -6,7 +6,7 @@ use Rattle.std.specs.Prelude.{ℕ, pos, ◌≡◌, ◌==◌, ◌&&◌, ◌||◌,
 use Rattle.std.specs.List.{AllByRecursion}
 use Rattle.sa_base.specs.declared.num.Num.{Num}
 use Rattle.sa_base.specs.declared.num.Num.TheVariants.{I32}
-use Rattle.sa_typed.specs.Arithmetic.{is_of, result_type}
+use Rattle.sa_typed.specs.Arithmetic.{is_of, promoted, result_type}
 use Rattle.sa_typed.specs.Executions.{params_of}
 use Rattle.sa_typed.specs.Layouts.{Layout, leaf, layout_of}
 use Rattle.sa_typed.specs.WellTyped.{type_of, converts, steps_layout, num_of_input, IsLink, is_fixed_read}
@@ -29,8 +29,8 @@ unfoldable mutual
   IsTypedExpression p (Prefix' op q num n (more_of-Expr a end_of-Expr)) = IsTypedExpression p a × IsTrue (converts (type_of a) num)
   IsTypedExpression p (Cast' q num n (more_of-Expr a end_of-Expr)) = IsTypedExpression p a
   IsTypedExpression p (Chain' n (more_of-Expr a end_of-Expr) m ls) = IsTypedExpression p a × AreTypedLinks p (type_of a) ls
-  IsTypedExpression p (And' n (more_of-Expr a end_of-Expr) m rest) = IsTypedExpression p a × AreTypedExpressions p rest
-  IsTypedExpression p (Or' n (more_of-Expr a end_of-Expr) m rest) = IsTypedExpression p a × AreTypedExpressions p rest
+  IsTypedExpression p (And' n (more_of-Expr a end_of-Expr) m rest) = IsTypedExpression p a × AreSomeTyped p rest
+  IsTypedExpression p (Or' n (more_of-Expr a end_of-Expr) m rest) = IsTypedExpression p a × AreSomeTyped p rest
   -- both results convert to the type of the whole (ISO C 6.5.15p5)
   IsTypedExpression p (Choice' n (more_of-Expr a end_of-Expr) m (more_of-Expr b end_of-Expr) l (more_of-Expr c end_of-Expr) num) =
       IsTypedExpression p a × ((IsTypedExpression p b × IsTrue (converts (type_of b) num)) × (IsTypedExpression p c × IsTrue (converts (type_of c) num)))
@@ -38,6 +38,11 @@ unfoldable mutual
   pub AreTypedExpressions : {n : _} → Program → Row_of-Expr n → Type 0
   AreTypedExpressions p end_of-Expr = Unit {0}
   AreTypedExpressions p (more_of-Expr a rest) = IsTypedExpression p a × AreTypedExpressions p rest
+
+  -- one operand at least
+  pub AreSomeTyped : {n : _} → Program → Row_of-Expr n → Type 0
+  AreSomeTyped p end_of-Expr = ⊥
+  AreSomeTyped p (more_of-Expr a rest) = IsTypedExpression p a × AreTypedExpressions p rest
 
   -- links after a left operand of this type
   pub AreTypedLinks : {n : _} → Program → Num → Row_of-Link n → Type 0
@@ -60,6 +65,35 @@ LeadsThere p l _ = ⊥
 
 abbrev pub IsTypedPlace : Program → Layout → Access → Type 0
 IsTypedPlace p l x = LeadsThere p l (e.Read x I32)
+
+-- ---- operators before an operand work in its promoted type (ISO C 6.5.3.3p2 to p5)
+unfoldable mutual
+  pub IsPromoted : Expr → Type 0
+  IsPromoted (Number n num) = Unit {0}
+  IsPromoted (Read' v n steps num) = ArePromotedSteps steps
+  IsPromoted (Input k num) = Unit {0}
+  IsPromoted (Prefix' op q num n (more_of-Expr a end_of-Expr)) = (num ≡ promoted (type_of a)) × IsPromoted a
+  IsPromoted (Cast' q num n (more_of-Expr a end_of-Expr)) = IsPromoted a
+  IsPromoted (Chain' n (more_of-Expr a end_of-Expr) m ls) = IsPromoted a × ArePromotedLinks ls
+  IsPromoted (And' n (more_of-Expr a end_of-Expr) m rest) = IsPromoted a × ArePromoted rest
+  IsPromoted (Or' n (more_of-Expr a end_of-Expr) m rest) = IsPromoted a × ArePromoted rest
+  IsPromoted (Choice' n (more_of-Expr a end_of-Expr) m (more_of-Expr b end_of-Expr) l (more_of-Expr c end_of-Expr) num) = IsPromoted a × (IsPromoted b × IsPromoted c)
+
+  pub ArePromoted : {n : _} → Row_of-Expr n → Type 0
+  ArePromoted end_of-Expr = Unit {0}
+  ArePromoted (more_of-Expr a rest) = IsPromoted a × ArePromoted rest
+
+  pub ArePromotedLinks : {n : _} → Row_of-Link n → Type 0
+  ArePromotedLinks end_of-Link = Unit {0}
+  ArePromotedLinks (more_of-Link op q work b rest) = IsPromoted b × ArePromotedLinks rest
+
+  pub ArePromotedSteps : {n : _} → Row_of-Step n → Type 0
+  ArePromotedSteps end_of-Step = Unit {0}
+  ArePromotedSteps (more_of-Step s rest) = IsPromotedStep s × ArePromotedSteps rest
+
+  pub IsPromotedStep : Step → Type 0
+  IsPromotedStep (At' q m k (more_of-Expr a end_of-Expr)) = IsPromoted a
+  IsPromotedStep (Field x) = Unit {0}
 
 -- ---- variables in an expression
 unfoldable mutual
@@ -106,10 +140,12 @@ AreNamed p f vs = AllByRecursion (λ v. IsNamed f (slice_get p.vars v)) vs
 
 pub record IsExpression (p : Program) (f : ℕ) (a : Expr) : Type 0 where
   pub typed : IsTypedExpression p a
+  pub promoted : IsPromoted a
   pub named : AreNamed p f (variables_in a)
 
 pub record IsPlace (p : Program) (f : ℕ) (l : Layout) (x : Access) : Type 0 where
   pub typed : IsTypedPlace p l x
+  pub promoted : IsPromoted (e.Read x I32)
   pub named : AreNamed p f (variables_in (e.Read x I32))
 
 -- a variable that may change after its declaration (ISO C 6.5.16p2)

@@ -22,7 +22,7 @@ pub use arithmetic::{
 };
 pub use constants::{fixed_index, is_constant};
 pub use expr::{Access, Expr, Link, Operator, Prefix, Step};
-pub use laws::{calls_end, goes_on, never_breaks};
+pub use laws::{calls_end, goes_on, never_breaks, typed_programs_run};
 pub use program::{Func, Home, Input, Param, Place, Program, Var};
 pub use ranges::Ranges;
 pub use shape::{FieldDef, Part, Plain, Shape, StructDef};

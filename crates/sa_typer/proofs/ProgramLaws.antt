@@ -10,7 +10,7 @@ use Rattle.sa_typed.specs.Arithmetic.{result_type}
 use Rattle.sa_typed.specs.Executions.{params_of}
 use Rattle.sa_typed.specs.Layouts.{Layout, leaf, fields, no_field, nth_field, layout_of, var_layout}
 use Rattle.sa_typed.specs.WellTyped.{type_of, IsTypedExpr, AreTypedLinks, AreTypedSteps, steps_layout, IsRead, IsTypedAccess, IsFixedAccess, IsTypedStart, IsTypedSimple, IsTypedStmt, AreTypedStmts, HasTypedItems}
-use Rattle.sa_typed.specs.TypedExpressions.{LeadsThere, variables_in, variables_in_links, variables_in_steps, is_named_by, IsNamed, AreNamed, IsExpression, IsPlace, IsVariable, ChangesVariable, IsLeftSide, is_reference, is_through_reference, IsFixedPlace}
+use Rattle.sa_typed.specs.TypedExpressions.{LeadsThere, IsPromoted, variables_in, variables_in_links, variables_in_steps, is_named_by, IsNamed, AreNamed, IsExpression, IsPlace, IsVariable, ChangesVariable, IsLeftSide, is_reference, is_through_reference, IsFixedPlace}
 use Rattle.sa_typed.specs.TypedPrograms.{AreDistinct, is_parameter, IsTypedBeginning, IsSimple, IsStatement, AreStatements, IsEmpty, IsWait, IsTurn, IsClockLoop, IsMainBlock, IsMainBody, IsMain, Site, calls_in, calls_in_all, loops_at, loops_at_all, calls_of, loops_of, IsFunction, AreRanked, IsTypedProgram}
 use Rattle.sa_typed.specs.declared.expr.Access.{Access}
 use Rattle.sa_typed.specs.declared.expr.Expr.{Expr, Number, Read', Input, Prefix', Cast', Chain', And', Or', Choice', end_of-Expr, more_of-Expr, Row_of-Link, end_of-Link, more_of-Link, Row_of-Step, end_of-Step, more_of-Step}
@@ -30,7 +30,7 @@ use Rattle.sa_scopes.specs.declared.typer.Typer.{Typer}
 use Rattle.sa_scopes.specs.declared.types.Element.{Element}
 use Rattle.sa_scopes.specs.declared.types.Element.TheVariants as el
 use Rattle.sa_scopes.proofs.WalkLaws.{no_fault}
-use Rattle.sa_operands.proofs.RowLaws.{NamesVariable, IsFree, IsFreeStmt, AreFree, AllStmts, typed_append, whole_typed, clock_typed}
+use Rattle.sa_operands.proofs.RowLaws.{NamesVariable, IsPromotedStart, IsFree, IsFreeStmt, AreFree, AllStmts, typed_append, whole_typed, clock_typed}
 use Rattle.sa_typer.specs.declared.bodies.Entry.{Entry}
 use Rattle.sa_typer.specs.Bodies.{clock_stmt}
 use Rattle.sa_typer.specs.Units.{is_entry_type, result_of, function, program}
@@ -108,8 +108,8 @@ module _ (p : Program) (all_named : (k : ℕ) (v : Var) → slice_get p.vars k �
     steps_named (more_of-Step (At' q m k (more_of-Expr a end_of-Expr)) rest) h = all_both (λ v. IsNamed 0 (slice_get p.vars v)) (variables_in a) (variables_in_steps rest) (names a h.0) (steps_named rest h.1)
     steps_named (more_of-Step (Field f) rest) h = steps_named rest h.1
 
-  expression : (a : Expr) → IsTypedExpr p a → IsExpression p 0 a
-  expression a h = record { typed = typed_still p a h; named = names a h }
+  expression : (a : Expr) → IsTypedExpr p a → IsPromoted a → IsExpression p 0 a
+  expression a h k = record { typed = typed_still p a h; promoted = k; named = names a h }
 
   -- ---- places
   leads_there : (l : Layout) (a : Expr) → IsRead p l a → LeadsThere p l a
@@ -125,11 +125,11 @@ module _ (p : Program) (all_named : (k : ℕ) (v : Var) → slice_get p.vars k �
   changes_named (Read' v n steps num) h = variable_named v (slice_get p.vars v) refl h
   changes_named _ h = absurd h
 
-  place : (l : Layout) (x : Access) → IsTypedAccess p l x → NamesVariable p (e.Read x I32) → IsPlace p 0 l x
-  place l x h k = record { typed = leads_there l (e.Read x I32) h; named = place_named l (e.Read x I32) h k }
+  place : (l : Layout) (x : Access) → IsTypedAccess p l x → NamesVariable p (e.Read x I32) → IsPromoted (e.Read x I32) → IsPlace p 0 l x
+  place l x h k m = record { typed = leads_there l (e.Read x I32) h; promoted = m; named = place_named l (e.Read x I32) h k }
 
-  left_side : (l : Layout) (x : Access) → IsTypedAccess p l x → ChangesVariable p (e.Read x I32) → IsLeftSide p 0 l x
-  left_side l x h k = record { place = place l x h (changes_named (e.Read x I32) k); variable = k }
+  left_side : (l : Layout) (x : Access) → IsTypedAccess p l x → ChangesVariable p (e.Read x I32) → IsPromoted (e.Read x I32) → IsLeftSide p 0 l x
+  left_side l x h k m = record { place = place l x h (changes_named (e.Read x I32) k) m; variable = k }
 
   is_direct : (a : Expr) → is_through_reference p 0 a ≡ false
   unfolding is_reference
@@ -140,17 +140,17 @@ module _ (p : Program) (all_named : (k : ℕ) (v : Var) → slice_get p.vars k �
   fixed_place l x h = record { fixed = h.fixed; direct = is_direct (e.Read x I32) }
 
   -- ---- statements
-  beginning : (k : ℕ) (x : Start) → IsTypedStart p k x → IsTypedBeginning p 0 k x
-  beginning k begins.Any h = tt
-  beginning k (begins.Value q a) h = (expression a h.0, h.1)
-  beginning k begins.Items h = tt
+  beginning : (k : ℕ) (x : Start) → IsTypedStart p k x → IsPromotedStart x → IsTypedBeginning p 0 k x
+  beginning k begins.Any h m = tt
+  beginning k (begins.Value q a) h m = (expression a h.0 m, h.1)
+  beginning k begins.Items h m = tt
 
   simple : (x : Simple) → IsTypedSimple p x → IsFree p x → IsSimple p 0 x
   unfolding is_parameter
-  simple (Declare k x) h f = (record { own = f; parameter = ap (is_parameter k) no_params }, beginning k x h)
-  simple (Assign x num q a) h f = (left_side (leaf num) x h.0 f, expression a h.1)
-  simple (Compound x num op q work a) h f = (left_side (leaf num) x h.0 f, (expression a h.1.0, h.1.1))
-  simple (Copy k x q y) h f = (h.0, ((left_side h.0 x h.1.typed f.0, fixed_place h.0 x h.1), (place h.0 y h.2.typed f.1, fixed_place h.0 y h.2)))
+  simple (Declare k x) h f = (record { own = f.0; parameter = ap (is_parameter k) no_params }, beginning k x h f.1)
+  simple (Assign x num q a) h f = (left_side (leaf num) x h.0 f.0 f.1.0, expression a h.1 f.1.1)
+  simple (Compound x num op q work a) h f = (left_side (leaf num) x h.0 f.0 f.1.0, (expression a h.1.0 f.1.1, h.1.1))
+  simple (Copy k x q y) h f = (h.0, ((left_side h.0 x h.1.typed f.0.0 f.1.0, fixed_place h.0 x h.1), (place h.0 y h.2.typed f.0.1 f.1.1, fixed_place h.0 y h.2)))
 
   mutual
     unfolding IsTypedStmt IsFreeStmt IsStatement

@@ -45,7 +45,7 @@ use Rattle.sa_declarations.specs.Declarations.{local}
 use Rattle.sa_scopes.specs.Scopes.{Scope, oldest, count}
 use Rattle.sa_typer.specs.Statements.{mismatched, to_number, to_struct, to_form, assigned, compound_of, update_of, one, sort_by, compounded_number, compounded_by, compounded, left_side, simple, left_scope, scoped, directive, stmt, items, item}
 use Rattle.sa_scopes.specs.Typing.{Typed, Typing, Gives, and_then, pure, each}
-use Rattle.sa_operands.proofs.RowLaws.{GoodSimple, AllStmts, stmts_append, access_typed, access_named, access_changes, access_fixed, simple_typed, block_typed}
+use Rattle.sa_operands.proofs.RowLaws.{GoodSimple, AllStmts, stmts_append, access_typed, access_promoted, access_named, access_changes, access_fixed, simple_typed, block_typed}
 use Rattle.sa_scopes.proofs.WalkLaws.{Ends, Later, Well, Leads, Any, gives, refuses, refusal, bind, next, from, free, so, unless}
 use Rattle.sa_operands.proofs.OperandLaws.{IsGood, LeadsTo, GoodOperand, struct_in, one_good, works}
 use Rattle.sa_operands.proofs.PlaceLaws.{IsAt, GoodSpot, there, shaped}
@@ -85,6 +85,7 @@ module _ (p : Program) where
     leads = record {
       typed = access_typed p k l.steps (shape_layout p.structs shape) h.typed h.leads;
       named = access_named p k l.steps h.named;
+      promoted = access_promoted p k l.steps h.typed;
       constant = λ c. access_fixed k l.steps (h.constant c);
     };
     changes = access_changes p k l.steps (h.free f);
@@ -107,7 +108,7 @@ module _ (p : Program) where
 
   -- ---- assignments
   number_leads : (l : Spot) (num : Num) (q : Pos) (i : Operand) (s : Typer) → Leads p (IsLeft (leaf num) l.fixed (access l) × GoodOperand p i) s (λ y t. GoodSimple p y) (to_number (access l) num q i s)
-  number_leads l num q (a.Number e m v) s = gives (λ w h e. ((h.0.leads.typed, h.1.typed), h.0.changes))
+  number_leads l num q (a.Number e m v) s = gives (λ w h e. ((h.0.leads.typed, h.1.typed.0), (h.0.changes, (h.0.leads.promoted, h.1.typed.1))))
   number_leads l num q (a.Struct y k fixed r) s = refuses 5 q
   number_leads l num q (a.Array r) s = refuses 5 q
   number_leads l num q a.Unknown s = gives (λ w h e. absurd h.1)
@@ -120,7 +121,7 @@ module _ (p : Program) where
   copied l k j fixed y q left right h =
       let all = all_three (k == j) l.fixed fixed h in
       let same = subst (λ (n : ℕ). LeadsTo p (struct_in p n) fixed y) (same_number k j all.0) right in
-      ((struct_in p k, record { typed = left.leads.typed; fixed = left.leads.constant all.1.0 }, record { typed = same.typed; fixed = same.constant all.1.1 }), (left.changes, same.named))
+      ((struct_in p k, record { typed = left.leads.typed; fixed = left.leads.constant all.1.0 }, record { typed = same.typed; fixed = same.constant all.1.1 }), ((left.changes, same.named), (left.leads.promoted, same.promoted)))
 
   struct_leads : (l : Spot) (k : ℕ) (q : Pos) (i : Operand) (s : Typer) → Leads p (IsLeft (struct_in p k) l.fixed (access l) × GoodOperand p i) s (λ y t. GoodSimple p y) (to_struct (access l) l.fixed k q i s)
   struct_leads l k q (a.Number e m v) s = refuses 5 q
@@ -154,7 +155,7 @@ module _ (p : Program) where
   object_leads l o q a.Unknown s = refuses 5 q
 
   numbers_leads : (l : Spot) (to : Num) (o : Operator) (q : Pos) (i : Operand) (s : Typer) → Leads p (IsLeft (leaf to) l.fixed (access l) × GoodOperand p i) s (λ y t. GoodSimple p y) (compounded_by (access l) o q (sort.Number to) i s)
-  numbers_leads l to o q (a.Number e m v) s = gives (λ w h g. ((h.0.leads.typed, (h.1.typed, link_there o to m e h.1.is)), h.0.changes))
+  numbers_leads l to o q (a.Number e m v) s = gives (λ w h g. ((h.0.leads.typed, (h.1.typed.0, link_there o to m e h.1.is)), (h.0.changes, (h.0.leads.promoted, h.1.typed.1))))
   numbers_leads l to o q (a.Struct y k fixed r) s = refuses 5 q
   numbers_leads l to o q (a.Array r) s = refuses 5 q
   numbers_leads l to o q a.Unknown s = gives (λ w h e. absurd h.1)
