@@ -1,6 +1,6 @@
 ghost use Rattle.std.specs.Prelude.{◌≡◌, ◌≤ℤ◌, ◌↔◌, IsTrue, MatchOption};
 ghost use Rattle.sa_interval.specs.Span.{Span, IsInterval, IsPart, IsJoin, IsMeet, AreDisjoint, low_limit, high_limit};
-ghost use Rattle.sa_interval.specs.Rows.{join_of, meet_of, is_part};
+ghost use Rattle.sa_interval.specs.Rows.{single, join_of, meet_of, is_part};
 
 mod arithmetic;
 mod bits;
@@ -41,6 +41,15 @@ impl Interval {
         ensures { result ≡ record { lo = lo; hi = hi } }
     {
         Interval { lo, hi }
+    }
+
+    /// One number.
+    pub fn single(z: i128) -> Interval
+        requires low { low_limit ≤ℤ z }
+        requires high { z ≤ℤ high_limit }
+        ensures { result ≡ single z }
+    {
+        Interval { lo: z, hi: z }
     }
 
     /// The least number.

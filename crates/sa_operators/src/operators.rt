@@ -130,15 +130,6 @@ fn quotient_span(num: Num, a: Interval, b: Interval) -> Option<Interval>
     in_type_span(num, a.div(b)?)
 }
 
-/// One number.
-fn single(z: i128) -> Interval
-    requires low { negsuc 0 ≤ℤ z }
-    requires high { z ≤ℤ pos 1 }
-    ensures { result ≡ single z }
-{
-    Interval::new(z, z)
-}
-
 #[tactic(auto, using(crate::proofs::CodeLaws::noted_nothing))]
 /// The alarm of a result that is there.
 fn note_fit_if(
@@ -305,8 +296,8 @@ fn truth_span(always: bool, never: bool) -> Interval
     ensures { result ≡ truth_span always never }
 {
     match (always, never) {
-        (true, _) => single(1),
-        (false, true) => single(0),
+        (true, _) => Interval::single(1),
+        (false, true) => Interval::single(0),
         (false, false) => Interval::new(0, 1),
     }
 }
@@ -436,7 +427,7 @@ fn not_span(a: Interval) -> Interval
 fn negated_span(num: Num, a: Interval) -> Interval
     ensures { result ≡ negated_span num a }
 {
-    single(0).sub(a)
+    Interval::single(0).sub(a)
 }
 
 #[tactic(auto, unfolding(crate::specs::Operators::operator_span))]

@@ -10,11 +10,11 @@ ghost use Rattle.sa_parser.specs.Parts as parts;
 use crate::cursor::Tokens;
 use crate::expr::Grammar;
 use crate::fault::Stop;
-use crate::words::{compound_of, turn_of};
+use crate::words::{compound_of, update_of};
 use sa_base::Pos;
 use sa_syntax::{
     Arg, ArgValue, Call, Compound, Declr, Directive, Expr, Init, InitDeclr, Local, LocalDeclr,
-    LocalStart, Place, Simple, Start, Turn,
+    LocalStart, Place, Simple, Start, Update,
 };
 use sa_tokens::Punct;
 use sqlite_items::Items;
@@ -25,10 +25,10 @@ fn compound_at(tokens: &Tokens<'_>) -> Option<Compound>
     compound_of(tokens.mark()?)
 }
 
-fn turn_at(tokens: &Tokens<'_>) -> Option<Turn>
-    ensures { result ≡ stmt.turn_in (spec.mark_at tokens.now) }
+fn update_at(tokens: &Tokens<'_>) -> Option<Update>
+    ensures { result ≡ stmt.update_in (spec.mark_at tokens.now) }
 {
-    turn_of(tokens.mark()?)
+    update_of(tokens.mark()?)
 }
 
 /// The two pairs of brackets of a directive without an expression, from the directive's word on.
@@ -188,12 +188,12 @@ impl Grammar<'_> {
     // ---- assignments
 
     #[tactic(auto, unfolding(sa_syntax::specs::ReadStmt::before))]
-    fn before(&self, tokens: &mut Tokens<'_>, room: usize, turn: Turn) -> Result<Simple, Stop>
-        ensures { Reads (stmt.before self.now.names.now room turn tokens.old) result tokens.new }
+    fn before(&self, tokens: &mut Tokens<'_>, room: usize, update: Update) -> Result<Simple, Stop>
+        ensures { Reads (stmt.before self.now.names.now room update tokens.old) result tokens.new }
     {
         let pos = tokens.take()?;
         let place = self.place(tokens, room)?;
-        Ok(Simple::Before(turn, pos, place))
+        Ok(Simple::Before(update, pos, place))
     }
 
     /// What stands after the place that is assigned to; `star` says that the place is `*p`.
@@ -212,14 +212,14 @@ impl Grammar<'_> {
             let value = self.whole(tokens, room)?;
             return Ok(Simple::Assign(place, pos, value));
         }
-        match turn_at(tokens) {
+        match update_at(tokens) {
             None => self.compounded(tokens, room, place),
-            Some(turn) => {
+            Some(update) => {
                 if star {
                     Err(Stop::Syntax)
                 } else {
                     let pos = tokens.take()?;
-                    Ok(Simple::After(place, turn, pos))
+                    Ok(Simple::After(place, update, pos))
                 }
             }
         }
@@ -243,8 +243,8 @@ impl Grammar<'_> {
     pub fn simple(&self, tokens: &mut Tokens<'_>, room: usize) -> Result<Simple, Stop>
         ensures { Reads (stmt.simple self.now.names.now room tokens.old) result tokens.new }
     {
-        match turn_at(tokens) {
-            Some(turn) => self.before(tokens, room, turn),
+        match update_at(tokens) {
+            Some(update) => self.before(tokens, room, update),
             None => {
                 let star = tokens.sees_star();
                 let place = self.place(tokens, room)?;

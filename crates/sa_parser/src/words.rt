@@ -5,7 +5,7 @@ ghost use Rattle.sa_syntax.specs.Words as words;
 ghost use Rattle.sa_syntax.specs.ReadExpr as read;
 ghost use Rattle.sa_syntax.specs.ReadStmt as stmt;
 
-use sa_syntax::{Compound, Operator, Prefix, Qualifier, ScalarWord, Turn};
+use sa_syntax::{Compound, Operator, Prefix, Qualifier, ScalarWord, Update};
 use sa_tokens::{Keyword, Punct};
 
 /// The operator before an operand (ISO C 6.5.3.3).
@@ -114,12 +114,12 @@ pub fn compound_of(mark: Punct) -> Option<Compound>
 }
 
 /// `++` or `--`.
-pub fn turn_of(mark: Punct) -> Option<Turn>
-    ensures { result ≡ words.turn_of mark }
+pub fn update_of(mark: Punct) -> Option<Update>
+    ensures { result ≡ words.update_of mark }
 {
     match mark {
-        Punct::PlusPlus => Some(Turn::Up),
-        Punct::MinusMinus => Some(Turn::Down),
+        Punct::PlusPlus => Some(Update::Increment),
+        Punct::MinusMinus => Some(Update::Decrement),
         _ => None,
     }
 }

@@ -37,7 +37,7 @@ use Rattle.sa_operands.specs.Operands.{is_object}
 use Rattle.sa_scopes.specs.declared.types.Ty.{Ty}
 use Rattle.sa_operands.specs.Places.{access, form_at, operand, operand_by}
 use Rattle.sa_scopes.specs.Scopes.{Scope, is_some, oldest, count}
-use Rattle.sa_typer.specs.Statements.{to_number, to_struct, to_form, assigned, compound_of, turn_of, one as just_one, sort_by, compounded_number, compounded_by, compounded, left_side, simple, left_scope, scoped, directive, stmt, items, item}
+use Rattle.sa_typer.specs.Statements.{to_number, to_struct, to_form, assigned, compound_of, update_of, one as just_one, sort_by, compounded_number, compounded_by, compounded, left_side, simple, left_scope, scoped, directive, stmt, items, item}
 use Rattle.sa_scopes.specs.Typing.{Typed, Typing, Gives, and_then, pure, each, refuse_if, fault}
 use Rattle.sa_rules.specs.Events.{Event, Copies, Stores, Begins, Ends}
 use Rattle.sa_rules.specs.Scenes.{Meaning, within}
@@ -205,8 +205,8 @@ module _ (found : Bool) where
   unfolding simple in_simple
   simple_reads os (x.Assign y q i) s = bind (left_reads os y s) (λ l t. right_reads os l q i t)
   simple_reads os (x.Compound y o q i) s = bind (left_reads os y s) (λ l t. stores os (seen_spot l) (ends (expr_reads found (Place (seen_spot l) ∷ os) i t) (λ j u. compounded_quiet l (compound_of o) q j u)))
-  simple_reads os (x.After y o q) s = bind (left_reads os y s) (λ l t. stores os (seen_spot l) (quiet (compounded_quiet l (turn_of o) q just_one t)))
-  simple_reads os (x.Before o q y) s = bind (left_reads os y s) (λ l t. stores os (seen_spot l) (quiet (compounded_quiet l (turn_of o) q just_one t)))
+  simple_reads os (x.After y o q) s = bind (left_reads os y s) (λ l t. stores os (seen_spot l) (quiet (compounded_quiet l (update_of o) q just_one t)))
+  simple_reads os (x.Before o q y) s = bind (left_reads os y s) (λ l t. stores os (seen_spot l) (quiet (compounded_quiet l (update_of o) q just_one t)))
 
   -- ---- blocks
   begins_reads : (os : List Open) (s : Typer) → Reads (At os found) s (Begins ∷ []) (λ u. At (Block (count s.names) (count s.tags) ∷ os) found) (Gives (tt {0}) s)

@@ -46,12 +46,13 @@ use Rattle.sa_scopes.specs.First.{expr_pos, init_pos, place_pos, item_pos}
 use Rattle.sa_scopes.specs.Forms.{form_of, scalar}
 use Rattle.sa_declarations.specs.Initialisers.{slotted, init, braced, values}
 use Rattle.sa_scopes.specs.Scopes.{is_visible}
-use Rattle.sa_typer.specs.Statements.{compound_of, turn_of, one as just_one, left_side, simple, scoped, directive, stmt, items, item}
+use Rattle.sa_typer.specs.Statements.{compound_of, update_of, one as just_one, left_side, simple, scoped, directive, stmt, items, item}
 use Rattle.sa_scopes.specs.Structures.{slot}
 use Rattle.sa_scopes.specs.Types.{has_volatile, shape_of}
 use Rattle.sa_scopes.specs.Typing.{Typed, Typing, Gives, pure, fault}
 use Rattle.sa_typer.specs.Units as unit
-use Rattle.sa_typer.specs.Units.{plain_type, type_name, is_main, first_main, main, blank, has_entry, all_items, refusals}
+use Rattle.sa_syntax.specs.Forms.{is_main}
+use Rattle.sa_typer.specs.Units.{plain_type, type_name, first_main, main, blank, has_entry, all_items, refusals}
 use Rattle.sa_rules.specs.Sites.{of_expr, of_bound, of_place, of_specifiers, of_init, of_inits, of_start, of_global, of_local_init, of_local_start, of_local_declr, of_local, of_simple, of_stmt, of_items, of_block_item, of_loop_or_item, of_main_item, of_main, of_top, sites, StandAtSites}
 use Rattle.sa_rules.proofs.Exact.{none_in}
 use Rattle.sa_rules.proofs.SiteWalks.{Adds, Sub, sub_left, sub_right, sub_head, sub_rest, adds_none, adds_other, other_code, adds_then, adds_here, adds_unless, other_unless, adds_by, adds_all}
@@ -154,8 +155,8 @@ module _ (P : Pos → Type 0) where
       let l = sub_rest q (of_place y ++ of_expr i) h in
       adds_then P (left_adds y s (sub_left (of_place y) (of_expr i) l))
       (λ m t. adds_then P (expr_adds P i t (sub_right (of_place y) (of_expr i) l)) (λ j u. compounded_adds P m (compound_of o) q j u (sub_head q (of_place y ++ of_expr i) h)))
-  simple_adds (x.After y o q) s h = adds_then P (left_adds y s (sub_rest q (of_place y) h)) (λ m t. compounded_adds P m (turn_of o) q just_one t (sub_head q (of_place y) h))
-  simple_adds (x.Before o q y) s h = adds_then P (left_adds y s (sub_rest q (of_place y) h)) (λ m t. compounded_adds P m (turn_of o) q just_one t (sub_head q (of_place y) h))
+  simple_adds (x.After y o q) s h = adds_then P (left_adds y s (sub_rest q (of_place y) h)) (λ m t. compounded_adds P m (update_of o) q just_one t (sub_head q (of_place y) h))
+  simple_adds (x.Before o q y) s h = adds_then P (left_adds y s (sub_rest q (of_place y) h)) (λ m t. compounded_adds P m (update_of o) q just_one t (sub_head q (of_place y) h))
 
   scoped_adds : {A : Type 0} (m : Typing A) (s : Typer) → Adds P s (m s) → Adds P s (scoped m s)
   unfolding scoped

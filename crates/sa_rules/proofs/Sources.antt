@@ -15,7 +15,8 @@ use Rattle.sa_declarations.specs.Declarations.{is_struct}
 use Rattle.sa_scopes.specs.Scopes.{is_visible}
 use Rattle.sa_scopes.specs.Typing.{Typed, Typing, Gives, and_then, pure, each, refused, fault}
 use Rattle.sa_typer.specs.Units as unit
-use Rattle.sa_typer.specs.Units.{plain_type, type_name, is_main, entry, first_main, main, blank, is_entry_type, is_entry, has_entry, all_items, refusals}
+use Rattle.sa_syntax.specs.Forms.{is_main}
+use Rattle.sa_typer.specs.Units.{plain_type, type_name, entry, first_main, main, blank, is_entry_type, is_entry, has_entry, all_items, refusals}
 use Rattle.sa_rules.specs.Events.{Event, Aliases, Defines, Main}
 use Rattle.sa_rules.specs.Rules.{at_if}
 use Rattle.sa_rules.specs.Scenes.{Scene}

@@ -7,7 +7,7 @@ use Rattle.sa_tokens.specs.declared.punct.Punct.TheVariants as m
 use Rattle.sa_tokens.specs.declared.token.Token.{Token}
 use Rattle.sa_syntax.specs.declared.expr.Expr.{Expr}
 use Rattle.sa_syntax.specs.declared.expr.Place.{Place}
-use Rattle.sa_syntax.specs.declared.stmt.Turn.{Turn}
+use Rattle.sa_syntax.specs.declared.stmt.Update.{Update}
 use Rattle.sa_syntax.specs.declared.stmt.Simple.{Simple}
 use Rattle.sa_syntax.specs.declared.stmt.Call.{Call}
 use Rattle.sa_syntax.specs.declared.stmt.Directive.TheVariants as d
@@ -20,7 +20,7 @@ use Rattle.sa_syntax.specs.declared.stmt.Group.{Group}
 use Rattle.sa_syntax.specs.declared.stmt.BlockItem.{BlockItem}
 use Rattle.sa_syntax.specs.declared.stmt.BlockItem.TheVariants as item
 use Rattle.sa_syntax.specs.Trees as tree
-use Rattle.sa_syntax.specs.Words.{Names, mark, key, turn_of, begins_with_star, begins_with_else, begins_with_label}
+use Rattle.sa_syntax.specs.Words.{Names, mark, key, update_of, begins_with_star, begins_with_else, begins_with_label}
 use Rattle.sa_syntax.specs.Expressions.{Place'}
 use Rattle.sa_syntax.specs.Statements.{Call', Labels}
 use Rattle.sa_syntax.specs.Reading.{Parser, Got, same_mark, sees, after, expect, opens_any, opens, key_at, mark_at}
@@ -60,18 +60,18 @@ module _ (ns : Names) (n : ℕ) (bodies : Bodies) where
   unfolding read.placed read.call_stmt same_mark expect
   call_stmt-reads ts us p c h e = rw (h, e) refl
 
-  turn-mark : (mk : Punct) (t : Turn) → turn_of mk ≡ Some t → read.mark_stmt ns n bodies (Some mk) ≡ read.simple_ended ns n bodies (read.simple ns n)
-  turn-mark m.PlusPlus t h = refl
-  turn-mark m.MinusMinus t h = refl
-  turn-mark _ t h = cc
+  update-mark : (mk : Punct) (t : Update) → update_of mk ≡ Some t → read.mark_stmt ns n bodies (Some mk) ≡ read.simple_ended ns n bodies (read.simple ns n)
+  update-mark m.PlusPlus t h = refl
+  update-mark m.MinusMinus t h = refl
+  update-mark _ t h = cc
 
   ended-reads : (ts us : List Token) (p : Pos) (a : Simple) → read.simple ns n ts ≡ Got a (mark m.Semicolon p ∷ us) → read.simple_ended ns n bodies (read.simple ns n) ts ≡ Got (s.Simple a) us
   unfolding read.simple_ended same_mark expect
   ended-reads ts us p a e = rw e refl
 
-  pub turned-reads : (ts us : List Token) (p q : Pos) (mk : Punct) (t : Turn) (a : Simple) → turn_of mk ≡ Some t → read.simple ns n (mark mk p ∷ ts) ≡ Got a (mark m.Semicolon q ∷ us) → read.stmt ns n bodies (mark mk p ∷ ts) ≡ Got (s.Simple a) us
+  pub updated-reads : (ts us : List Token) (p q : Pos) (mk : Punct) (t : Update) (a : Simple) → update_of mk ≡ Some t → read.simple ns n (mark mk p ∷ ts) ≡ Got a (mark m.Semicolon q ∷ us) → read.stmt ns n bodies (mark mk p ∷ ts) ≡ Got (s.Simple a) us
   unfolding read.stmt key_at mark_at
-  turned-reads ts us p q mk t a h e = ap (λ r. r (mark mk p ∷ ts)) (turn-mark mk t h) ∙ ended-reads (mark mk p ∷ ts) us q a e
+  updated-reads ts us p q mk t a h e = ap (λ r. r (mark mk p ∷ ts)) (update-mark mk t h) ∙ ended-reads (mark mk p ∷ ts) us q a e
 
   -- ---- choices and loops
   pub if-reads : (ts us vs : List Token) (p q r : Pos) (c : Expr) (a : Stmt) → read.expr ns n ts ≡ Got c (mark m.CloseParen r ∷ us) → bodies.stmt us ≡ Got a vs → begins_with_else vs ≡ false →

@@ -11,7 +11,7 @@ use Rattle.sa_tokens.specs.declared.token.Word.TheVariants.{Name, Number, Key, M
 use Rattle.sa_tokens.specs.declared.token.Token.{Token}
 use Rattle.sa_syntax.specs.declared.expr.Expr.{Expr}
 use Rattle.sa_syntax.specs.declared.expr.Place.{Place}
-use Rattle.sa_syntax.specs.declared.stmt.Turn.TheVariants as turn_word
+use Rattle.sa_syntax.specs.declared.stmt.Update.TheVariants as update_word
 use Rattle.sa_syntax.specs.declared.expr.PlaceBase.TheVariants as at
 use Rattle.sa_syntax.specs.declared.stmt.Simple.{Simple}
 use Rattle.sa_syntax.specs.declared.stmt.Simple.TheVariants as simply
@@ -83,8 +83,8 @@ mark_starts ns m.OpenBrace p h = (close m.CloseBrace ∷ [], λ rest. (s.Block (
 mark_starts ns m.Semicolon p h = ([], λ rest. (s.Empty p, Stmt'.empty))
 mark_starts ns m.OpenParen p h = (close m.Star ∷ word (fresh ns) spot ∷ close m.CloseParen ∷ close m.Equal ∷ nought ∷ semicolon ∷ [], λ rest. assigned-zero ns 3 (mark m.OpenParen p ∷ close m.Star ∷ word (fresh ns) spot ∷ close m.CloseParen ∷ close m.Equal ∷ nought ∷ semicolon ∷ rest) _ rest (Place'.through (fresh-is ns) Steps.no_step))
 mark_starts ns m.Star p h = (word (fresh ns) spot ∷ close m.Equal ∷ nought ∷ semicolon ∷ [], λ rest. assigned-zero ns 3 (mark m.Star p ∷ word (fresh ns) spot ∷ close m.Equal ∷ nought ∷ semicolon ∷ rest) _ rest (Place'.star (fresh-is ns)))
-mark_starts ns m.PlusPlus p h = (word (fresh ns) spot ∷ semicolon ∷ [], λ rest. (s.Simple (simply.Before turn_word.Up p (tree.place (at.Name (named (fresh ns) spot)) [])), Stmt'.simple_stmt (Simple'.before refl (fresh-place ns 3 (semicolon ∷ rest)))))
-mark_starts ns m.MinusMinus p h = (word (fresh ns) spot ∷ semicolon ∷ [], λ rest. (s.Simple (simply.Before turn_word.Down p (tree.place (at.Name (named (fresh ns) spot)) [])), Stmt'.simple_stmt (Simple'.before refl (fresh-place ns 3 (semicolon ∷ rest)))))
+mark_starts ns m.PlusPlus p h = (word (fresh ns) spot ∷ semicolon ∷ [], λ rest. (s.Simple (simply.Before update_word.Increment p (tree.place (at.Name (named (fresh ns) spot)) [])), Stmt'.simple_stmt (Simple'.before refl (fresh-place ns 3 (semicolon ∷ rest)))))
+mark_starts ns m.MinusMinus p h = (word (fresh ns) spot ∷ semicolon ∷ [], λ rest. (s.Simple (simply.Before update_word.Decrement p (tree.place (at.Name (named (fresh ns) spot)) [])), Stmt'.simple_stmt (Simple'.before refl (fresh-place ns 3 (semicolon ∷ rest)))))
 mark_starts ns mk p h = cc
 
 name_starts : (ns : Names) (v : List ℕ) (p : Pos) (b : Bool) → is_type_name ns v ≡ b → is_some (cond b None (Some (named v p))) ≡ true → Starts ns (word v p)

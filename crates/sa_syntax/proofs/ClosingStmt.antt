@@ -16,7 +16,7 @@ use Rattle.sa_syntax.specs.declared.expr.Expr.{Expr}
 use Rattle.sa_syntax.specs.declared.expr.Expr.TheVariants as e
 use Rattle.sa_syntax.specs.declared.expr.Place.{Place}
 use Rattle.sa_syntax.specs.declared.stmt.Compound.{Compound}
-use Rattle.sa_syntax.specs.declared.stmt.Turn.{Turn}
+use Rattle.sa_syntax.specs.declared.stmt.Update.{Update}
 use Rattle.sa_syntax.specs.declared.stmt.Simple.TheVariants as simply
 use Rattle.sa_syntax.specs.declared.stmt.Arg.{Arg}
 use Rattle.sa_syntax.specs.declared.stmt.ArgValue.{ArgValue}
@@ -29,7 +29,7 @@ use Rattle.sa_syntax.specs.declared.stmt.Label.TheVariants as label
 use Rattle.sa_syntax.specs.declared.stmt.LocalStart.TheVariants as begins
 use Rattle.sa_syntax.specs.declared.stmt.Stmt.TheVariants as s
 use Rattle.sa_syntax.specs.Trees as tree
-use Rattle.sa_syntax.specs.Words.{Names, mark, key, word, compound_of, turn_of, begins_with_star, begins_with_label}
+use Rattle.sa_syntax.specs.Words.{Names, mark, key, word, compound_of, update_of, begins_with_star, begins_with_label}
 use Rattle.sa_syntax.specs.Expressions.{Whole, Place', Specifiers', Declr', Bounds}
 use Rattle.sa_syntax.specs.Statements.{Init', Inits, InitDeclr', ArgValue', Args, Call', Simple', LocalDeclr', LocalDeclrs, Local', Directive', First', Condition', Next', Label', Labels, Stmt'}
 use Rattle.sa_syntax.specs.Reading.{Parser, Deep, and_then, sees, after, expect, opens, key_at, mark_at, many, turns, pure, ◌>>=◌}
@@ -163,19 +163,19 @@ call_closed ns n ts = closed_next (good_variable ns) n ts (calm_variable ns ts) 
     (λ i h p vs. closed_last i vs [] (λ more ws xs rest a ss v. (tree.call x xs, call_some ns more ss x p ws xs rest v a)) (args_closed ns p i vs) (λ xs ws. Calm.got)))
 
 -- ---- assignments
-data TurnAt (t : Turn) : List Token → Type 0 where
-  turn_at : {mk : Punct} {p : Pos} {us : List Token} → turn_of mk ≡ Some t → TurnAt t (mark mk p ∷ us)
+data UpdateAt (t : Update) : List Token → Type 0 where
+  update_at : {mk : Punct} {p : Pos} {us : List Token} → update_of mk ≡ Some t → UpdateAt t (mark mk p ∷ us)
 
-marked_turn : (t : Turn) (mk : Punct) (ts : List Token) (p : Pos) (us : List Token) → Marked mk ts p us → turn_of mk ≡ Some t → TurnAt t ts
-marked_turn t mk _ p us Marked.marked h = TurnAt.turn_at h
+marked_update : (t : Update) (mk : Punct) (ts : List Token) (p : Pos) (us : List Token) → Marked mk ts p us → update_of mk ≡ Some t → UpdateAt t ts
+marked_update t mk _ p us Marked.marked h = UpdateAt.update_at h
 
-turn_is : (t : Turn) (o : Option Punct) (ts : List Token) → mark_at ts ≡ o → read.turn_in o ≡ Some t → TurnAt t ts
-turn_is t None ts e h = cc
-turn_is t (Some mk) ts e h = let k = mark_at_is ts mk e in marked_turn t mk ts (k.0) (after ts) (k.1) h
+update_is : (t : Update) (o : Option Punct) (ts : List Token) → mark_at ts ≡ o → read.update_in o ≡ Some t → UpdateAt t ts
+update_is t None ts e h = cc
+update_is t (Some mk) ts e h = let k = mark_at_is ts mk e in marked_update t mk ts (k.0) (after ts) (k.1) h
 
-before_closed : (ns : Names) (n : ℕ) (t : Turn) (ts : List Token) → TurnAt t ts → Closed Any (Some' (Simple' ns)) n ts (read.before ns n t ts)
+before_closed : (ns : Names) (n : ℕ) (t : Update) (ts : List Token) → UpdateAt t ts → Closed Any (Some' (Simple' ns)) n ts (read.before ns n t ts)
 unfolding read.before
-before_closed ns n t _ (TurnAt.turn_at {mk} {p} {us} h) = stepped (mark mk p) (closed_last n us [] (λ more vs x rest i. (simply.Before t p x, Simple'.before h i)) (place_closed ns n us) (λ x vs. Calm.got))
+before_closed ns n t _ (UpdateAt.update_at {mk} {p} {us} h) = stepped (mark mk p) (closed_last n us [] (λ more vs x rest i. (simply.Before t p x, Simple'.before h i)) (place_closed ns n us) (λ x vs. Calm.got))
 
 -- behind the place
 abbrev pub Behind : Names → Place → ℕ → List Token → List Token → Type 0
@@ -189,9 +189,9 @@ compounded_closed ns n x o ts e None h = Closed.stuck
 compounded_closed ns n x None ts e (Some op) h = cc
 compounded_closed ns n x (Some mk) ts e (Some op) h = let k = mark_at_is ts mk e in compounded_marked ns n x op mk ts (k.0) (after ts) (k.1) h
 
-turned_closed : (ns : Names) (n : ℕ) (star : Bool) (x : Place) (o : Option Turn) (ts : List Token) → Closed Any (Behind ns x) n ts (read.turned ns n star x o ts)
-turned_closed ns n star x None ts = compounded_closed ns n x (mark_at ts) ts refl (read.compound_in (mark_at ts)) refl
-turned_closed ns n star x (Some t) ts = closed_calm (calm_if star Calm.stuck (calm_then (calm_takes ts) (λ p us. Calm.got)))
+updated_closed : (ns : Names) (n : ℕ) (star : Bool) (x : Place) (o : Option Update) (ts : List Token) → Closed Any (Behind ns x) n ts (read.updated ns n star x o ts)
+updated_closed ns n star x None ts = compounded_closed ns n x (mark_at ts) ts refl (read.compound_in (mark_at ts)) refl
+updated_closed ns n star x (Some t) ts = closed_calm (calm_if star Calm.stuck (calm_then (calm_takes ts) (λ p us. Calm.got)))
 
 assign_place : (ns : Names) (more : ℕ) (x : Place) (us : List Token) (p : Pos) (vs : List Token) (a : Expr) (rest : List Token) → Marked m.Equal us p vs → Whole ns more vs a rest → (ss : List Token) → Place' ns more ss x us → Simple' ns more ss (simply.Assign x p a) rest
 assign_place ns more x _ p vs a rest Marked.marked w ss i = Simple'.assign i w
@@ -200,15 +200,15 @@ pub assigned_closed : (ns : Names) (n : ℕ) (star : Bool) (x : Place) (ts : Lis
 unfolding read.assigned
 assigned_closed ns n star x ts = closed_if (sees m.Equal ts)
     (λ h. closed_next (good_expect m.Equal) n ts (calm_expect m.Equal ts) (λ p us. closed_last n us [] (λ more vs a rest w us c ss i. (simply.Assign x p a, assign_place ns more x us p vs a rest c w ss i)) (expr_closed ns n us) (λ a vs. Calm.got)))
-    (λ h. turned_closed ns n star x (read.turn_in (mark_at ts)) ts)
+    (λ h. updated_closed ns n star x (read.update_in (mark_at ts)) ts)
 
-simple_by_closed : (ns : Names) (n : ℕ) (o : Option Turn) (ts : List Token) → read.turn_in (mark_at ts) ≡ o → Closed Any (Some' (Simple' ns)) n ts (read.simple_by ns n o ts)
-simple_by_closed ns n (Some t) ts h = before_closed ns n t ts (turn_is t (mark_at ts) ts refl h)
+simple_by_closed : (ns : Names) (n : ℕ) (o : Option Update) (ts : List Token) → read.update_in (mark_at ts) ≡ o → Closed Any (Some' (Simple' ns)) n ts (read.simple_by ns n o ts)
+simple_by_closed ns n (Some t) ts h = before_closed ns n t ts (update_is t (mark_at ts) ts refl h)
 simple_by_closed ns n None ts h = closed_then (good_place ns) n ts (close m.Equal ∷ nought ∷ []) (λ more ss x rest i. (simply.Assign x spot zero_expr, Simple'.assign i (zero-whole ns more rest))) (place_closed ns n ts) (λ x us. assigned_closed ns n (begins_with_star ts) x us)
 
 pub simple_closed : (ns : Names) (n : ℕ) (ts : List Token) → Closed Any (Some' (Simple' ns)) n ts (read.simple ns n ts)
 unfolding read.simple
-simple_closed ns n ts = simple_by_closed ns n (read.turn_in (mark_at ts)) ts refl
+simple_closed ns n ts = simple_by_closed ns n (read.update_in (mark_at ts)) ts refl
 
 -- ---- locals
 local_init : (ns : Names) (more : ℕ) (ss : List Token) (x : Declr) (us : List Token) (p : Pos) (vs : List Token) (i : Init) (rest : List Token) → Declr' ns more ss x us → Marked m.Equal us p vs → Init' ns more vs i rest → LocalDeclr' ns more ss (tree.local_declr x (begins.Init p i)) rest

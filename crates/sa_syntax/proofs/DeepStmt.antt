@@ -17,7 +17,7 @@ use Rattle.sa_syntax.specs.declared.decl.Start.TheVariants as start
 use Rattle.sa_syntax.specs.declared.expr.Expr.{Expr}
 use Rattle.sa_syntax.specs.declared.expr.Place.{Place}
 use Rattle.sa_syntax.specs.declared.stmt.Compound.{Compound}
-use Rattle.sa_syntax.specs.declared.stmt.Turn.{Turn}
+use Rattle.sa_syntax.specs.declared.stmt.Update.{Update}
 use Rattle.sa_syntax.specs.declared.stmt.Simple.{Simple}
 use Rattle.sa_syntax.specs.declared.stmt.Simple.TheVariants as simply
 use Rattle.sa_syntax.specs.declared.stmt.Arg.{Arg}
@@ -222,7 +222,7 @@ module _ (ns : Names) (n : ℕ) where
   call_or_fine p q one other gone away = fine_look (read.sees_call ns) one other call_far (λ t r s. call_near p q gone away t.word t.pos r s) (λ c t r s. inl (call_second c t r s))
 
   -- ---- assignments
-  pub before_fine : (t : Turn) → Fine 1 (read.before ns n t)
+  pub before_fine : (t : Update) → Fine 1 (read.before ns n t)
   unfolding read.before
   before_fine t = fine_first fine_takes (λ p. fine_then (place_fine ns n) (λ x. fine_pure (simply.Before t p x)))
 
@@ -234,28 +234,28 @@ module _ (ns : Names) (n : ℕ) where
   stuck_or true one = fine_refuse 0
   stuck_or false one = one
 
-  pub turned_fine : (star : Bool) (x : Place) (o : Option Turn) → Fine 0 (read.turned ns n star x o)
-  turned_fine star x None = fine_ahead (λ ts. read.compound_in (mark_at ts)) (λ t r s. ap read.compound_in (mark_ahead t r s)) (read.compounded ns n x) (compounded_fine x)
-  turned_fine star x (Some t) = stuck_or star (fine_then fine_takes (λ p. fine_pure (simply.After x t p)))
+  pub updated_fine : (star : Bool) (x : Place) (o : Option Update) → Fine 0 (read.updated ns n star x o)
+  updated_fine star x None = fine_ahead (λ ts. read.compound_in (mark_at ts)) (λ t r s. ap read.compound_in (mark_ahead t r s)) (read.compounded ns n x) (compounded_fine x)
+  updated_fine star x (Some t) = stuck_or star (fine_then fine_takes (λ p. fine_pure (simply.After x t p)))
 
-  turn_ahead : Ahead (λ ts. read.turn_in (mark_at ts))
-  turn_ahead t r s = ap read.turn_in (mark_ahead t r s)
+  update_ahead : Ahead (λ ts. read.update_in (mark_at ts))
+  update_ahead t r s = ap read.update_in (mark_ahead t r s)
 
   pub assigned_fine : (star : Bool) (x : Place) → Fine 0 (read.assigned ns n star x)
   unfolding read.assigned
   assigned_fine star x = fine_if (sees m.Equal) (sees_ahead m.Equal) (fine_then (fine_expect m.Equal) (λ p. fine_then (expr_fine ns n) (λ a. fine_pure (simply.Assign x p a))))
-      (fine_ahead (λ ts. read.turn_in (mark_at ts)) turn_ahead (read.turned ns n star x) (turned_fine star x))
+      (fine_ahead (λ ts. read.update_in (mark_at ts)) update_ahead (read.updated ns n star x) (updated_fine star x))
 
   star_ahead : Ahead begins_with_star
   star_ahead t r s = refl
 
-  pub simple_by_fine : (o : Option Turn) → Fine 1 (read.simple_by ns n o)
+  pub simple_by_fine : (o : Option Update) → Fine 1 (read.simple_by ns n o)
   simple_by_fine (Some t) = before_fine t
   simple_by_fine None = fine_ahead begins_with_star star_ahead (λ star. read.place ns n >>= read.assigned ns n star) (λ star. fine_first (place_fine ns n) (assigned_fine star))
 
   pub simple_fine : Fine 1 (read.simple ns n)
   unfolding read.simple
-  simple_fine = fine_ahead (λ ts. read.turn_in (mark_at ts)) turn_ahead (read.simple_by ns n) simple_by_fine
+  simple_fine = fine_ahead (λ ts. read.update_in (mark_at ts)) update_ahead (read.simple_by ns n) simple_by_fine
 
   -- ---- locals
   pub init_fine : (x : Declr) (p : Pos) → Fine 0 (read.init_at ns n >>= (λ i. pure (tree.local_declr x (begins.Init p i))))

@@ -16,7 +16,7 @@ use Rattle.sa_syntax.specs.declared.expr.Expr.{Expr}
 use Rattle.sa_syntax.specs.declared.expr.Place.{Place}
 use Rattle.sa_syntax.specs.declared.expr.PlaceBase.TheVariants as at
 use Rattle.sa_syntax.specs.declared.stmt.Compound.{Compound}
-use Rattle.sa_syntax.specs.declared.stmt.Turn.{Turn}
+use Rattle.sa_syntax.specs.declared.stmt.Update.{Update}
 use Rattle.sa_syntax.specs.declared.stmt.Simple.{Simple}
 use Rattle.sa_syntax.specs.declared.stmt.Simple.TheVariants as simply
 use Rattle.sa_syntax.specs.declared.stmt.Arg.{Arg}
@@ -26,7 +26,7 @@ use Rattle.sa_syntax.specs.declared.stmt.First.TheVariants as first
 use Rattle.sa_syntax.specs.declared.stmt.Label.TheVariants as label
 use Rattle.sa_syntax.specs.declared.stmt.LocalStart.TheVariants as begins
 use Rattle.sa_syntax.specs.Trees as tree
-use Rattle.sa_syntax.specs.Words.{Names, mark, key, word, named, is_type_name, compound_of, turn_of, is_label, begins_with_star, begins_with_label}
+use Rattle.sa_syntax.specs.Words.{Names, mark, key, word, named, is_type_name, compound_of, update_of, is_label, begins_with_star, begins_with_label}
 use Rattle.sa_syntax.specs.Expressions.{Whole, Place', Steps, Specifiers', Declr', Bounds}
 use Rattle.sa_syntax.specs.Statements.{Init', Inits, InitDeclr', ArgValue', Args, Call', Simple', LocalDeclr', LocalDeclrs, Local', Directive', First', Condition', Next', Label'}
 use Rattle.sa_syntax.specs.Refusals.{takes_two, Deepens}
@@ -148,20 +148,20 @@ module _ (ns : Names) (n : ℕ) where
       → Ends {A = Simple} n (λ r us a vs. (ss : List Token) → Place' ns r ss x us → begins_with_star ss ≡ star → Simple' ns r ss a vs) (λ r us z. (ss : List Token) → Place' ns r ss x us → begins_with_star ss ≡ star → Some' (Simple' ns) r ss z) ts (Stuck ts)
   no_compound star x ts = halts (close m.Equal) (nought ∷ []) (refl, refl) (λ r z l ss i e. (simply.Assign x spot zero_expr, Simple'.assign i (zero-whole ns r z)))
 
-  after_ends : (star : Bool) (x : Place) (mk : Punct) (t : Turn) (ts : List Token) → mark_at ts ≡ Some mk → turn_of mk ≡ Some t
-      → Ends n (λ r us a vs. (ss : List Token) → Place' ns r ss x us → begins_with_star ss ≡ star → Simple' ns r ss a vs) (λ r us z. (ss : List Token) → Place' ns r ss x us → begins_with_star ss ≡ star → Some' (Simple' ns) r ss z) ts (read.turned ns n star x (Some t) ts)
+  after_ends : (star : Bool) (x : Place) (mk : Punct) (t : Update) (ts : List Token) → mark_at ts ≡ Some mk → update_of mk ≡ Some t
+      → Ends n (λ r us a vs. (ss : List Token) → Place' ns r ss x us → begins_with_star ss ≡ star → Simple' ns r ss a vs) (λ r us z. (ss : List Token) → Place' ns r ss x us → begins_with_star ss ≡ star → Some' (Simple' ns) r ss z) ts (read.updated ns n star x (Some t) ts)
   after_ends true x mk t ts h g = no_compound true x ts
   after_ends false x mk t ts h g = mark_then mk ts h (λ p us. done (λ r zs l f ss i e. Simple'.after i g e))
 
-  turned_ends : (star : Bool) (x : Place) (mk : Punct) (ts : List Token) → mark_at ts ≡ Some mk → (o : Option Turn) → turn_of mk ≡ o
-      → Ends n (λ r us a vs. (ss : List Token) → Place' ns r ss x us → begins_with_star ss ≡ star → Simple' ns r ss a vs) (λ r us z. (ss : List Token) → Place' ns r ss x us → begins_with_star ss ≡ star → Some' (Simple' ns) r ss z) ts (read.turned ns n star x o ts)
-  turned_ends star x mk ts h None g = subst (λ (o : Option Punct). Ends n (λ r us a vs. (ss : List Token) → Place' ns r ss x us → begins_with_star ss ≡ star → Simple' ns r ss a vs) (λ r us z. (ss : List Token) → Place' ns r ss x us → begins_with_star ss ≡ star → Some' (Simple' ns) r ss z) ts (read.compounded ns n x (read.compound_in o) ts)) (sym h) (compounded_ends star x mk ts h (compound_of mk) refl)
-  turned_ends star x mk ts h (Some t) g = after_ends star x mk t ts h g
+  updated_ends : (star : Bool) (x : Place) (mk : Punct) (ts : List Token) → mark_at ts ≡ Some mk → (o : Option Update) → update_of mk ≡ o
+      → Ends n (λ r us a vs. (ss : List Token) → Place' ns r ss x us → begins_with_star ss ≡ star → Simple' ns r ss a vs) (λ r us z. (ss : List Token) → Place' ns r ss x us → begins_with_star ss ≡ star → Some' (Simple' ns) r ss z) ts (read.updated ns n star x o ts)
+  updated_ends star x mk ts h None g = subst (λ (o : Option Punct). Ends n (λ r us a vs. (ss : List Token) → Place' ns r ss x us → begins_with_star ss ≡ star → Simple' ns r ss a vs) (λ r us z. (ss : List Token) → Place' ns r ss x us → begins_with_star ss ≡ star → Some' (Simple' ns) r ss z) ts (read.compounded ns n x (read.compound_in o) ts)) (sym h) (compounded_ends star x mk ts h (compound_of mk) refl)
+  updated_ends star x mk ts h (Some t) g = after_ends star x mk t ts h g
 
-  turned_by : (star : Bool) (x : Place) (o : Option Punct) (ts : List Token) → mark_at ts ≡ o
-      → Ends n (λ r us a vs. (ss : List Token) → Place' ns r ss x us → begins_with_star ss ≡ star → Simple' ns r ss a vs) (λ r us z. (ss : List Token) → Place' ns r ss x us → begins_with_star ss ≡ star → Some' (Simple' ns) r ss z) ts (read.turned ns n star x (read.turn_in o) ts)
-  turned_by star x None ts h = subst (λ (o : Option Punct). Ends n (λ r us a vs. (ss : List Token) → Place' ns r ss x us → begins_with_star ss ≡ star → Simple' ns r ss a vs) (λ r us z. (ss : List Token) → Place' ns r ss x us → begins_with_star ss ≡ star → Some' (Simple' ns) r ss z) ts (read.compounded ns n x (read.compound_in o) ts)) (sym h) (no_compound star x ts)
-  turned_by star x (Some mk) ts h = turned_ends star x mk ts h (turn_of mk) refl
+  updated_by : (star : Bool) (x : Place) (o : Option Punct) (ts : List Token) → mark_at ts ≡ o
+      → Ends n (λ r us a vs. (ss : List Token) → Place' ns r ss x us → begins_with_star ss ≡ star → Simple' ns r ss a vs) (λ r us z. (ss : List Token) → Place' ns r ss x us → begins_with_star ss ≡ star → Some' (Simple' ns) r ss z) ts (read.updated ns n star x (read.update_in o) ts)
+  updated_by star x None ts h = subst (λ (o : Option Punct). Ends n (λ r us a vs. (ss : List Token) → Place' ns r ss x us → begins_with_star ss ≡ star → Simple' ns r ss a vs) (λ r us z. (ss : List Token) → Place' ns r ss x us → begins_with_star ss ≡ star → Some' (Simple' ns) r ss z) ts (read.compounded ns n x (read.compound_in o) ts)) (sym h) (no_compound star x ts)
+  updated_by star x (Some mk) ts h = updated_ends star x mk ts h (update_of mk) refl
 
   pub assigned_ends : (star : Bool) (x : Place) (ts : List Token)
       → Ends n (λ r us a vs. (ss : List Token) → Place' ns r ss x us → begins_with_star ss ≡ star → Simple' ns r ss a vs) (λ r us z. (ss : List Token) → Place' ns r ss x us → begins_with_star ss ≡ star → Some' (Simple' ns) r ss z) ts (read.assigned ns n star x ts)
@@ -169,7 +169,7 @@ module _ (ns : Names) (n : ℕ) where
   assigned_ends star x ts = ends_if (sees m.Equal ts)
       (λ h. expect_then m.Equal ts (nought ∷ []) (λ r z l ss i e. (simply.Assign x spot zero_expr, Simple'.assign i (zero-whole ns r z))) (λ p us.
       seq (expr_ends ns n us) [] (λ r vs z l s ss i e. (simply.Assign x p (s.0), Simple'.assign i (s.1))) (λ a vs. done (λ r zs l f us s ss i e. Simple'.assign i s))))
-      (λ h. turned_by star x (mark_at ts) ts refl)
+      (λ h. updated_by star x (mark_at ts) ts refl)
 
 -- what a place takes has the first token
 pub star_same : (b us vs ts : List Token) → ts ≡ b ++ us → length us < length ts → begins_with_star (b ++ vs) ≡ begins_with_star ts
@@ -182,14 +182,14 @@ module _ (ns : Names) (n : ℕ) where
       let short : length us < length ts = place-shorter i in
       ends_map (λ r vs a ws g j. g (b ++ vs) j (star_same b us vs ts f short)) (λ r vs z g j. g (b ++ vs) j (star_same b us vs ts f short)) (assigned_ends ns n (begins_with_star ts) x us))
 
-  simple_turn : (mk : Punct) (ts : List Token) → mark_at ts ≡ Some mk → (o : Option Turn) → turn_of mk ≡ o → Ends n (Simple' ns) (Some' (Simple' ns)) ts (read.simple_by ns n o ts)
+  simple_update : (mk : Punct) (ts : List Token) → mark_at ts ≡ Some mk → (o : Option Update) → update_of mk ≡ o → Ends n (Simple' ns) (Some' (Simple' ns)) ts (read.simple_by ns n o ts)
   unfolding read.before
-  simple_turn mk ts h None g = placed_ends ts
-  simple_turn mk ts h (Some t) g = mark_then mk ts h (λ p us. seq (place_ends ns n us) [] (λ r ss z l s. (simply.Before t p (s.0), Simple'.before g (s.1))) (λ x vs. done (λ r zs l f ss s. Simple'.before g s)))
+  simple_update mk ts h None g = placed_ends ts
+  simple_update mk ts h (Some t) g = mark_then mk ts h (λ p us. seq (place_ends ns n us) [] (λ r ss z l s. (simply.Before t p (s.0), Simple'.before g (s.1))) (λ x vs. done (λ r zs l f ss s. Simple'.before g s)))
 
-  simple_mark : (o : Option Punct) (ts : List Token) → mark_at ts ≡ o → Ends n (Simple' ns) (Some' (Simple' ns)) ts (read.simple_by ns n (read.turn_in o) ts)
+  simple_mark : (o : Option Punct) (ts : List Token) → mark_at ts ≡ o → Ends n (Simple' ns) (Some' (Simple' ns)) ts (read.simple_by ns n (read.update_in o) ts)
   simple_mark None ts h = placed_ends ts
-  simple_mark (Some mk) ts h = simple_turn mk ts h (turn_of mk) refl
+  simple_mark (Some mk) ts h = simple_update mk ts h (update_of mk) refl
 
   pub simple_ends : (ts : List Token) → Ends n (Simple' ns) (Some' (Simple' ns)) ts (read.simple ns n ts)
   unfolding read.simple

@@ -16,7 +16,7 @@ use Rattle.sa_syntax.specs.declared.expr.Expr.{Expr}
 use Rattle.sa_syntax.specs.declared.expr.Place.{Place}
 use Rattle.sa_syntax.specs.declared.expr.PlaceBase.TheVariants as at
 use Rattle.sa_syntax.specs.declared.stmt.Compound.{Compound}
-use Rattle.sa_syntax.specs.declared.stmt.Turn.{Turn}
+use Rattle.sa_syntax.specs.declared.stmt.Update.{Update}
 use Rattle.sa_syntax.specs.declared.stmt.Simple.{Simple}
 use Rattle.sa_syntax.specs.declared.stmt.Arg.{Arg}
 use Rattle.sa_syntax.specs.declared.stmt.Directive.{Directive}
@@ -161,7 +161,7 @@ module _ (ns : Names) (j n more : ℕ) (room : n + j ≡ more) where
       near_then (near_within j (read.args ns p) (args_near ns p j) n more room i h vs) (λ xs ws. Near.same)))
 
   -- ---- assignments
-  before_near : (t : Turn) (ts : List Token) → Near j (read.before ns n t ts) (read.before ns more t ts)
+  before_near : (t : Update) (ts : List Token) → Near j (read.before ns n t ts) (read.before ns more t ts)
   unfolding read.before
   before_near t ts = near_then (Near.same {r = takes ts}) (λ p us. near_then (place_at ns j n more room us) (λ x vs. Near.same))
 
@@ -169,21 +169,21 @@ module _ (ns : Names) (j n more : ℕ) (room : n + j ≡ more) where
   compounded_near x None ts = Near.same
   compounded_near x (Some op) ts = near_then (Near.same {r = takes ts}) (λ p us. near_then (whole_at ns j n more room us) (λ a vs. Near.same))
 
-  turned_near : (star : Bool) (x : Place) (o : Option Turn) (ts : List Token) → Near j (read.turned ns n star x o ts) (read.turned ns more star x o ts)
-  turned_near star x None ts = compounded_near x (read.compound_in (mark_at ts)) ts
-  turned_near star x (Some t) ts = Near.same
+  updated_near : (star : Bool) (x : Place) (o : Option Update) (ts : List Token) → Near j (read.updated ns n star x o ts) (read.updated ns more star x o ts)
+  updated_near star x None ts = compounded_near x (read.compound_in (mark_at ts)) ts
+  updated_near star x (Some t) ts = Near.same
 
   assigned_near : (star : Bool) (x : Place) (ts : List Token) → Near j (read.assigned ns n star x ts) (read.assigned ns more star x ts)
   unfolding read.assigned
-  assigned_near star x ts = near_if (sees m.Equal ts) (near_then (Near.same {r = expect m.Equal ts}) (λ p us. near_then (whole_at ns j n more room us) (λ a vs. Near.same))) (turned_near star x (read.turn_in (mark_at ts)) ts)
+  assigned_near star x ts = near_if (sees m.Equal ts) (near_then (Near.same {r = expect m.Equal ts}) (λ p us. near_then (whole_at ns j n more room us) (λ a vs. Near.same))) (updated_near star x (read.update_in (mark_at ts)) ts)
 
-  simple_by_near : (o : Option Turn) (ts : List Token) → Near j (read.simple_by ns n o ts) (read.simple_by ns more o ts)
+  simple_by_near : (o : Option Update) (ts : List Token) → Near j (read.simple_by ns n o ts) (read.simple_by ns more o ts)
   simple_by_near (Some t) ts = before_near t ts
   simple_by_near None ts = near_then (place_at ns j n more room ts) (λ x us. assigned_near (begins_with_star ts) x us)
 
   simple_near : (ts : List Token) → Near j (read.simple ns n ts) (read.simple ns more ts)
   unfolding read.simple
-  simple_near ts = simple_by_near (read.turn_in (mark_at ts)) ts
+  simple_near ts = simple_by_near (read.update_in (mark_at ts)) ts
 
   -- ---- locals
   local_start_near : (x : Declr) (ts : List Token) → Near j (read.local_start ns n x ts) (read.local_start ns more x ts)

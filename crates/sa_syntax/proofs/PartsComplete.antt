@@ -13,7 +13,7 @@ use Rattle.sa_syntax.specs.declared.stmt.ArgValue.{ArgValue}
 use Rattle.sa_syntax.specs.declared.stmt.Label.{Label}
 use Rattle.sa_syntax.specs.declared.stmt.Local.{Local}
 use Rattle.sa_syntax.specs.declared.stmt.LocalDeclr.{LocalDeclr}
-use Rattle.sa_syntax.specs.Words.{Names, mark, compound_of, turn_of, begins_with_star, begins_with_label}
+use Rattle.sa_syntax.specs.Words.{Names, mark, compound_of, update_of, begins_with_star, begins_with_label}
 use Rattle.sa_syntax.specs.Statements.{Init', Inits, InitDeclr', InitDeclrs, ArgValue', Args, Call', Simple', LocalDeclr', LocalDeclrs, Local', Label', Labels}
 use Rattle.sa_syntax.specs.Reading.{Got, same_mark, sees}
 use Rattle.sa_syntax.specs.ReadStmt as read
@@ -23,8 +23,8 @@ use Rattle.sa_syntax.proofs.Front.{declr-ends_type, ends-close_paren, ends-colon
 use Rattle.sa_syntax.proofs.ExprComplete.{whole-complete, place-complete, type-complete, declr-complete}
 use Rattle.sa_syntax.proofs.ReadSteps.{Loops, loop-stops, loop-goes}
 use Rattle.sa_syntax.proofs.StmtShorter.{init-shorter, init_declr-shorter, arg_value-shorter, local_declr-shorter, label-shorter}
-use Rattle.sa_syntax.proofs.StmtFront.{whole-no_mark, place-no_turn, init-no_call, call-seen, init-no_close, args-no_close, ends-comma, ends-semicolon, ends-close_brace, equal-no_step, mark-no_step}
-use Rattle.sa_syntax.proofs.StmtSteps.{Listed, listed-last, listed-next, Started, started-last, started-comma, started-next, init_value-reads, braces-reads, plain_declr-reads, init_declr-reads, arg-reads, reference-reads, Given, given-last, given-next, no_args-read, args-read, call-reads, assign-reads, compound-reads, turn-reads, before-reads, placed-reads, plain_local-reads, init_local-reads, call_local-reads, local-reads, case-reads, default-reads}
+use Rattle.sa_syntax.proofs.StmtFront.{whole-no_mark, place-no_update, init-no_call, call-seen, init-no_close, args-no_close, ends-comma, ends-semicolon, ends-close_brace, equal-no_step, mark-no_step}
+use Rattle.sa_syntax.proofs.StmtSteps.{Listed, listed-last, listed-next, Started, started-last, started-comma, started-next, init_value-reads, braces-reads, plain_declr-reads, init_declr-reads, arg-reads, reference-reads, Given, given-last, given-next, no_args-read, args-read, call-reads, assign-reads, compound-reads, update-reads, before-reads, placed-reads, plain_local-reads, init_local-reads, call_local-reads, local-reads, case-reads, default-reads}
 
 -- ---- marks
 comma-no_semicolon : same_mark m.Comma m.Semicolon ≡ false
@@ -92,13 +92,13 @@ call-complete {ns} (Call'.args {n = n} {ts = ts} {us = us} {p = p} {q = q} {w = 
 -- ---- assignments
 pub simple-complete : {ns : Names} {n : ℕ} {ts : List Token} {a : Simple} {us : List Token} → Simple' ns n ts a us → EndsExpr us → read.simple ns n ts ≡ Got a us
 simple-complete {ns} (Simple'.assign {n = n} {ts = ts} {us = us} {vs = vs} {p = p} {x = x} {a = a} l w) e =
-    placed-reads ns n ts (mark m.Equal p ∷ us) vs x (simply.Assign x p a) (place-no_turn l) (place-complete l (equal-no_step p us)) (assign-reads ns n (begins_with_star ts) x us vs p a (whole-complete w e))
+    placed-reads ns n ts (mark m.Equal p ∷ us) vs x (simply.Assign x p a) (place-no_update l) (place-complete l (equal-no_step p us)) (assign-reads ns n (begins_with_star ts) x us vs p a (whole-complete w e))
 simple-complete {ns} (Simple'.compound {n = n} {ts = ts} {us = us} {vs = vs} {p = p} {mk = mk} {op = op} {x = x} {a = a} l h w) e =
-    placed-reads ns n ts (mark mk p ∷ us) vs x (simply.Compound x op p a) (place-no_turn l) (place-complete l (mark-no_step compound_of mk op p us h refl refl refl))
+    placed-reads ns n ts (mark mk p ∷ us) vs x (simply.Compound x op p a) (place-no_update l) (place-complete l (mark-no_step compound_of mk op p us h refl refl refl))
     (compound-reads ns n (begins_with_star ts) x us vs p mk op a h (whole-complete w e))
 simple-complete {ns} (Simple'.after {n = n} {ts = ts} {us = us} {p = p} {mk = mk} {t = t} {x = x} l h star) e =
-    placed-reads ns n ts (mark mk p ∷ us) us x (simply.After x t p) (place-no_turn l) (place-complete l (mark-no_step turn_of mk t p us h refl refl refl))
-    (turn-reads ns n (begins_with_star ts) x us p mk t star h)
+    placed-reads ns n ts (mark mk p ∷ us) us x (simply.After x t p) (place-no_update l) (place-complete l (mark-no_step update_of mk t p us h refl refl refl))
+    (update-reads ns n (begins_with_star ts) x us p mk t star h)
 simple-complete {ns} (Simple'.before {n = n} {ts = ts} {us = us} {p = p} {mk = mk} {t = t} {x = x} h l) e = before-reads ns n ts us p mk t x h (place-complete l e.no_step)
 
 -- ---- locals

@@ -19,7 +19,7 @@ use Rattle.sa_syntax.specs.declared.stmt.Stmt.TheVariants as s
 use Rattle.sa_syntax.specs.declared.stmt.Group.{Group}
 use Rattle.sa_syntax.specs.declared.stmt.BlockItem.{BlockItem}
 use Rattle.sa_syntax.specs.Trees as tree
-use Rattle.sa_syntax.specs.Words.{Names, mark, compound_of, turn_of, begins_with_star, begins_with_label}
+use Rattle.sa_syntax.specs.Words.{Names, mark, compound_of, update_of, begins_with_star, begins_with_label}
 use Rattle.sa_syntax.specs.Statements.{Simple', Local', Directive', First', Condition', Next', Labels, Stmt', Nested, Groups, Body, Outermost}
 use Rattle.sa_syntax.specs.Reading.{Got, same_mark, sees, expect}
 use Rattle.sa_syntax.specs.ReadExpr.{begins_type}
@@ -31,9 +31,9 @@ use Rattle.sa_syntax.proofs.ExprComplete.{whole-complete, place-complete, type-c
 use Rattle.sa_syntax.proofs.ReadSteps.{Loops, loop-stops, loop-goes}
 use Rattle.sa_syntax.proofs.StmtShorter.{local-shorter, labels-shorter, stmt-shorter, body-shorter}
 use Rattle.sa_syntax.proofs.StmtFront.{mark-no, whole-no_mark, place-no_call, whole-no_call, call-seen, BeginsStmt, stmt-begins, simple-no_mark, simple-no_type, ends-semicolon, equal-no_step, mark-no_step, mark-no_call, equal-no_call, semicolon-no_call}
-use Rattle.sa_syntax.proofs.StmtSteps.{assign-reads, compound-reads, turn-reads}
+use Rattle.sa_syntax.proofs.StmtSteps.{assign-reads, compound-reads, update-reads}
 use Rattle.sa_syntax.proofs.PartsComplete.{equal-no_bound, call-complete, simple-complete, local-complete, label-begins}
-use Rattle.sa_syntax.proofs.BodySteps.{block-reads, empty-reads, placed-stmt, gives-reads, assigned-reads, call_stmt-reads, turned-reads, if-reads, if_else-reads, while-reads, do-reads, for-reads, switch-reads, break-reads, return-reads, wait-reads, partition-reads, known_fact-reads, assert-reads, local_item-reads, stmt_item-reads, items-read, groups-read, place-stmt, call-stmt, group-reads}
+use Rattle.sa_syntax.proofs.BodySteps.{block-reads, empty-reads, placed-stmt, gives-reads, assigned-reads, call_stmt-reads, updated-reads, if-reads, if_else-reads, while-reads, do-reads, for-reads, switch-reads, break-reads, return-reads, wait-reads, partition-reads, known_fact-reads, assert-reads, local_item-reads, stmt_item-reads, items-read, groups-read, place-stmt, call-stmt, group-reads}
 
 -- ---- marks
 -- an assigned value that is no call
@@ -60,10 +60,10 @@ simple_stmt-complete {ns} b {us = ws} {q = q} (Simple'.compound {n = n} {ts = ts
 simple_stmt-complete {ns} b {us = ws} {q = q} (Simple'.after {n = n} {ts = ts} {p = p} {mk = mk} {t = t} {x = x} l h star) =
     let us = mark m.Semicolon q ∷ ws in
     place-stmt ns n b ts (mark mk p ∷ us) x l
-    ∙ placed-stmt ns n b ts (mark mk p ∷ us) ws x (s.Simple (simply.After x t p)) (place-no_call l (mark-no_call turn_of mk t p us h refl)) (place-complete l (mark-no_step turn_of mk t p us h refl refl refl))
-    (assigned-reads ns n b (begins_with_star ts) x (mark mk p ∷ us) ws q (simply.After x t p) (mark-no_gives ns turn_of mk t p us h refl) (turn-reads ns n (begins_with_star ts) x us p mk t star h))
+    ∙ placed-stmt ns n b ts (mark mk p ∷ us) ws x (s.Simple (simply.After x t p)) (place-no_call l (mark-no_call update_of mk t p us h refl)) (place-complete l (mark-no_step update_of mk t p us h refl refl refl))
+    (assigned-reads ns n b (begins_with_star ts) x (mark mk p ∷ us) ws q (simply.After x t p) (mark-no_gives ns update_of mk t p us h refl) (update-reads ns n (begins_with_star ts) x us p mk t star h))
 simple_stmt-complete {ns} b {us = ws} {q = q} (Simple'.before {n = n} {ts = ts} {p = p} {mk = mk} {t = t} {x = x} h l) =
-    turned-reads ns n b ts ws p q mk t (simply.Before t p x) h (simple-complete (Simple'.before h l) (ends-semicolon q ws))
+    updated-reads ns n b ts ws p q mk t (simply.Before t p x) h (simple-complete (Simple'.before h l) (ends-semicolon q ws))
 
 -- ---- directives
 directive_stmt-complete : {ns : Names} {n : ℕ} (b : Bodies) {ts : List Token} {a : Directive} {us : List Token} {v : Pos} → Directive' ns n ts a (mark m.Semicolon v ∷ us) → read.stmt ns n b ts ≡ Got (s.Directive (tree.pos_of ts) a) us

@@ -18,12 +18,12 @@ use Rattle.sa_syntax.specs.declared.stmt.Compound.{Compound}
 use Rattle.sa_syntax.specs.declared.stmt.Directive.{Directive}
 use Rattle.sa_syntax.specs.declared.stmt.Simple.{Simple}
 use Rattle.sa_syntax.specs.declared.stmt.Stmt.{Stmt}
-use Rattle.sa_syntax.specs.Words.{Names, mark, prefix_of, compound_of, turn_of, begins_with_label}
+use Rattle.sa_syntax.specs.Words.{Names, mark, prefix_of, compound_of, update_of, begins_with_label}
 use Rattle.sa_syntax.specs.Expressions.{Whole, Ranked, Links, Unary, Place', Steps}
 use Rattle.sa_syntax.specs.Statements.{Init', ArgValue', Args, Call', Simple', Directive', Stmt'}
 use Rattle.sa_syntax.specs.Reading.{same_mark, sees, name_at, key_at, mark_at}
 use Rattle.sa_syntax.specs.ReadExpr.{sees_step, sees_qualifier, sees_scalar, begins_type}
-use Rattle.sa_syntax.specs.ReadStmt.{sees_call, turn_in}
+use Rattle.sa_syntax.specs.ReadStmt.{sees_call, update_in}
 use Rattle.sa_syntax.specs.ExprLaws.{EndsExpr}
 use Rattle.sa_syntax.proofs.Front.{same_mark-true, operator-no_mark}
 
@@ -32,10 +32,10 @@ use Rattle.sa_syntax.proofs.Front.{same_mark-true, operator-no_mark}
 pub mark-no : {A : Type 0} (f : Punct → Option A) (a mk : Punct) (x : A) → f mk ≡ Some x → f a ≡ None → same_mark a mk ≡ false
 mark-no f a mk x h none = false_from_ne_true (same_mark a mk) (λ y. let e = sym none ∙ ap f (same_mark-true a mk y) ∙ h in cc)
 
-pub compound-no_turn : (mk : Punct) (op : Compound) → compound_of mk ≡ Some op → turn_of mk ≡ None
-compound-no_turn m.PlusPlus op h = cc
-compound-no_turn m.MinusMinus op h = cc
-compound-no_turn _ op h = refl
+pub compound-no_update : (mk : Punct) (op : Compound) → compound_of mk ≡ Some op → update_of mk ≡ None
+compound-no_update m.PlusPlus op h = cc
+compound-no_update m.MinusMinus op h = cc
+compound-no_update _ op h = refl
 
 -- ---- what an expression begins with
 abbrev pub begins_expr : Punct → Bool
@@ -80,11 +80,11 @@ pub whole-no_mark : {ns : Names} {n : ℕ} {ts : List Token} {x : Expr} {us : Li
 whole-no_mark (Whole.binary r) a other = ranked-no_mark r a other
 whole-no_mark (Whole.choice c x y) a other = ranked-no_mark c a other
 
-pub place-no_turn : {ns : Names} {n : ℕ} {ts : List Token} {x : Place} {us : List Token} → Place' ns n ts x us → turn_in (mark_at ts) ≡ None
+pub place-no_update : {ns : Names} {n : ℕ} {ts : List Token} {x : Place} {us : List Token} → Place' ns n ts x us → update_in (mark_at ts) ≡ None
 unfolding mark_at
-place-no_turn (Place'.name h s) = refl
-place-no_turn (Place'.through h s) = refl
-place-no_turn (Place'.star h) = refl
+place-no_update (Place'.name h s) = refl
+place-no_update (Place'.through h s) = refl
+place-no_update (Place'.star h) = refl
 
 -- ---- no expression begins as a call does, unless one goes on as a call
 steps-no_call : {ns : Names} {n : ℕ} {ts : List Token} {ss : List Step} {us : List Token} → Steps ns n ts ss us → sees m.OpenParen us ≡ false → sees m.OpenParen ts ≡ false
@@ -165,7 +165,7 @@ unfolding sees begins_type sees_qualifier sees_scalar key_at name_at
 simple-begins (Simple'.assign p w) = place-begins p
 simple-begins (Simple'.compound p h w) = place-begins p
 simple-begins (Simple'.after p h s) = place-begins p
-simple-begins (Simple'.before {mk = mk} {t = t} h p) = record { no_type = refl; no_close = mark-no turn_of m.CloseBrace mk t h refl; no_label = refl }
+simple-begins (Simple'.before {mk = mk} {t = t} h p) = record { no_type = refl; no_close = mark-no update_of m.CloseBrace mk t h refl; no_label = refl }
 
 call-begins : {ns : Names} {n : ℕ} {ts : List Token} {c : Call} {us : List Token} → Call' ns n ts c us → BeginsStmt ns ts
 unfolding sees begins_type sees_qualifier sees_scalar key_at name_at
@@ -197,12 +197,12 @@ stmt-begins Stmt'.break = record { no_type = refl; no_close = refl; no_label = r
 stmt-begins Stmt'.return = record { no_type = refl; no_close = refl; no_label = refl }
 stmt-begins (Stmt'.return_value w) = record { no_type = refl; no_close = refl; no_label = refl }
 
-pub simple-no_mark : {ns : Names} {n : ℕ} {ts : List Token} {a : Simple} {us : List Token} → Simple' ns n ts a us → (b : Punct) → begins_expr b ≡ false → turn_of b ≡ None → sees b ts ≡ false
+pub simple-no_mark : {ns : Names} {n : ℕ} {ts : List Token} {a : Simple} {us : List Token} → Simple' ns n ts a us → (b : Punct) → begins_expr b ≡ false → update_of b ≡ None → sees b ts ≡ false
 unfolding sees
 simple-no_mark (Simple'.assign p w) b other none = place-no_mark p b other
 simple-no_mark (Simple'.compound p h w) b other none = place-no_mark p b other
 simple-no_mark (Simple'.after p h s) b other none = place-no_mark p b other
-simple-no_mark (Simple'.before {mk = mk} {t = t} h p) b other none = mark-no turn_of b mk t h none
+simple-no_mark (Simple'.before {mk = mk} {t = t} h p) b other none = mark-no update_of b mk t h none
 
 pub simple-no_type : {ns : Names} {n : ℕ} {ts : List Token} {a : Simple} {us : List Token} → Simple' ns n ts a us → begins_type ns ts ≡ false
 simple-no_type a = (simple-begins a).no_type

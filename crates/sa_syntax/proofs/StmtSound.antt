@@ -15,7 +15,7 @@ use Rattle.sa_syntax.specs.declared.decl.Start.TheVariants as start
 use Rattle.sa_syntax.specs.declared.expr.Expr.{Expr}
 use Rattle.sa_syntax.specs.declared.expr.Place.{Place}
 use Rattle.sa_syntax.specs.declared.stmt.Compound.{Compound}
-use Rattle.sa_syntax.specs.declared.stmt.Turn.{Turn}
+use Rattle.sa_syntax.specs.declared.stmt.Update.{Update}
 use Rattle.sa_syntax.specs.declared.stmt.Simple.{Simple}
 use Rattle.sa_syntax.specs.declared.stmt.Simple.TheVariants as simply
 use Rattle.sa_syntax.specs.declared.stmt.Call.{Call}
@@ -29,7 +29,7 @@ use Rattle.sa_syntax.specs.declared.stmt.Label.{Label}
 use Rattle.sa_syntax.specs.declared.stmt.Label.TheVariants as label
 use Rattle.sa_syntax.specs.declared.stmt.LocalStart.TheVariants as begins
 use Rattle.sa_syntax.specs.Trees as tree
-use Rattle.sa_syntax.specs.Words.{Names, mark, key, word, named, is_type_name, compound_of, turn_of, begins_with_star, begins_with_label}
+use Rattle.sa_syntax.specs.Words.{Names, mark, key, word, named, is_type_name, compound_of, update_of, begins_with_star, begins_with_label}
 use Rattle.sa_syntax.specs.Expressions.{Whole, Place', Specifiers', Declr'}
 use Rattle.sa_syntax.specs.Statements.{Init', Inits, InitDeclr', InitDeclrs, ArgValue', Args, Call', Simple', LocalDeclr', LocalDeclrs, Local', Directive', First', Condition', Next', Label', Labels}
 use Rattle.sa_syntax.specs.Reading.{Parser, Got, Deep, sees, after, key_at, mark_at, many, turns}
@@ -202,21 +202,21 @@ call_sound ns n ts =
     Yields.got (call_from ns n ts x us p vs xs ws v o i))))
 
 -- ---- assignments
-take_turn : (o : Option Punct) (ts : List Token) (t : Turn) → mark_at ts ≡ o → read.turn_in o ≡ Some t → Yields (λ p us. MarkAt (λ mk. turn_of mk ≡ Some t) ts p us) (takes ts)
-take_turn None ts t e h = cc
-take_turn (Some mk) ts t e h = take_mark_at (λ mk. turn_of mk ≡ Some t) ts mk e h
+take_update : (o : Option Punct) (ts : List Token) (t : Update) → mark_at ts ≡ o → read.update_in o ≡ Some t → Yields (λ p us. MarkAt (λ mk. update_of mk ≡ Some t) ts p us) (takes ts)
+take_update None ts t e h = cc
+take_update (Some mk) ts t e h = take_mark_at (λ mk. update_of mk ≡ Some t) ts mk e h
 
 take_compound : (o : Option Punct) (ts : List Token) (op : Compound) → mark_at ts ≡ o → read.compound_in o ≡ Some op → Yields (λ p us. MarkAt (λ mk. compound_of mk ≡ Some op) ts p us) (takes ts)
 take_compound None ts op e h = cc
 take_compound (Some mk) ts op e h = take_mark_at (λ mk. compound_of mk ≡ Some op) ts mk e h
 
 module _ (ns : Names) (n : ℕ) where
-  before_from : (ts : List Token) (t : Turn) (p : Pos) (us : List Token) (x : Place) (vs : List Token) → MarkAt (λ mk. turn_of mk ≡ Some t) ts p us → Place' ns n us x vs → Simple' ns n ts (simply.Before t p x) vs
+  before_from : (ts : List Token) (t : Update) (p : Pos) (us : List Token) (x : Place) (vs : List Token) → MarkAt (λ mk. update_of mk ≡ Some t) ts p us → Place' ns n us x vs → Simple' ns n ts (simply.Before t p x) vs
   before_from _ t p us x vs (MarkAt.mark_at_front h) i = Simple'.before h i
 
-  before_sound : (t : Turn) (ts : List Token) → read.turn_in (mark_at ts) ≡ Some t → Yields (λ a us. Simple' ns n ts a us) (read.before ns n t ts)
+  before_sound : (t : Update) (ts : List Token) → read.update_in (mark_at ts) ≡ Some t → Yields (λ a us. Simple' ns n ts a us) (read.before ns n t ts)
   unfolding read.before
-  before_sound t ts h = then_yields (take_turn (mark_at ts) ts t refl h) (λ p us f. then_yields (place_yields ns n us) (λ x vs i. Yields.got (before_from ts t p us x vs f i)))
+  before_sound t ts h = then_yields (take_update (mark_at ts) ts t refl h) (λ p us f. then_yields (place_yields ns n us) (λ x vs i. Yields.got (before_from ts t p us x vs f i)))
 
   -- an assignment whose place was read
   abbrev pub Assigned : Bool → Place → List Token → Simple → List Token → Type 0
@@ -229,12 +229,12 @@ module _ (ns : Names) (n : ℕ) where
   compounded_sound star x None us h = Yields.stuck
   compounded_sound star x (Some op) us h = then_yields (take_compound (mark_at us) us op refl h) (λ p vs f. then_yields (whole_yields ns n vs) (λ a ws i. Yields.got (compound_from star op x us p vs a ws f i)))
 
-  after_from : (star : Bool) (t : Turn) (x : Place) (us : List Token) (p : Pos) (vs : List Token) → star ≡ false → MarkAt (λ mk. turn_of mk ≡ Some t) us p vs → Assigned star x us (simply.After x t p) vs
+  after_from : (star : Bool) (t : Update) (x : Place) (us : List Token) (p : Pos) (vs : List Token) → star ≡ false → MarkAt (λ mk. update_of mk ≡ Some t) us p vs → Assigned star x us (simply.After x t p) vs
   after_from star t x _ p vs h (MarkAt.mark_at_front f) ts j e = Simple'.after j f (e ∙ h)
 
-  turned_sound : (star : Bool) (x : Place) (o : Option Turn) (us : List Token) → read.turn_in (mark_at us) ≡ o → Yields (λ a vs. Assigned star x us a vs) (read.turned ns n star x o us)
-  turned_sound star x None us h = compounded_sound star x (read.compound_in (mark_at us)) us refl
-  turned_sound star x (Some t) us h = if_yields star (λ g. Yields.stuck) (λ g. then_yields (take_turn (mark_at us) us t refl h) (λ p vs f. Yields.got (after_from star t x us p vs g f)))
+  updated_sound : (star : Bool) (x : Place) (o : Option Update) (us : List Token) → read.update_in (mark_at us) ≡ o → Yields (λ a vs. Assigned star x us a vs) (read.updated ns n star x o us)
+  updated_sound star x None us h = compounded_sound star x (read.compound_in (mark_at us)) us refl
+  updated_sound star x (Some t) us h = if_yields star (λ g. Yields.stuck) (λ g. then_yields (take_update (mark_at us) us t refl h) (λ p vs f. Yields.got (after_from star t x us p vs g f)))
 
   assign_from : (star : Bool) (x : Place) (us : List Token) (p : Pos) (vs : List Token) (a : Expr) (ws : List Token) → Marked m.Equal us p vs → Whole ns n vs a ws → Assigned star x us (simply.Assign x p a) ws
   assign_from star x _ p vs a ws Marked.marked i ts j e = Simple'.assign j i
@@ -243,15 +243,15 @@ module _ (ns : Names) (n : ℕ) where
   unfolding read.assigned
   assigned_sound star x us = if_yields (sees m.Equal us)
       (λ h. then_yields (expect_yields m.Equal us) (λ p vs c. then_yields (whole_yields ns n vs) (λ a ws i. Yields.got (assign_from star x us p vs a ws c i))))
-      (λ h. turned_sound star x (read.turn_in (mark_at us)) us refl)
+      (λ h. updated_sound star x (read.update_in (mark_at us)) us refl)
 
-  simple_by_sound : (o : Option Turn) (ts : List Token) → read.turn_in (mark_at ts) ≡ o → Yields (λ a us. Simple' ns n ts a us) (read.simple_by ns n o ts)
+  simple_by_sound : (o : Option Update) (ts : List Token) → read.update_in (mark_at ts) ≡ o → Yields (λ a us. Simple' ns n ts a us) (read.simple_by ns n o ts)
   simple_by_sound (Some t) ts h = before_sound t ts h
   simple_by_sound None ts h = then_yields (place_yields ns n ts) (λ x us i. map_yields (λ a vs go. go ts i refl) (assigned_sound (begins_with_star ts) x us))
 
   pub simple_sound : (ts : List Token) → Yields (λ a us. Simple' ns n ts a us) (read.simple ns n ts)
   unfolding read.simple
-  simple_sound ts = simple_by_sound (read.turn_in (mark_at ts)) ts refl
+  simple_sound ts = simple_by_sound (read.update_in (mark_at ts)) ts refl
 
   -- ---- locals
   with_call_from : (ts : List Token) (x : Declr) (us : List Token) (p : Pos) (vs : List Token) (c : Call) (ws : List Token) → Declr' ns n ts x us → Marked m.Equal us p vs → Call' ns n vs c ws → LocalDeclr' ns n ts (tree.local_declr x (begins.Call p c)) ws

@@ -13,7 +13,7 @@ use Rattle.sa_syntax.specs.declared.decl.Start.TheVariants as start
 use Rattle.sa_syntax.specs.declared.expr.Expr.{Expr}
 use Rattle.sa_syntax.specs.declared.expr.Place.{Place}
 use Rattle.sa_syntax.specs.declared.stmt.Compound.{Compound}
-use Rattle.sa_syntax.specs.declared.stmt.Turn.{Turn}
+use Rattle.sa_syntax.specs.declared.stmt.Update.{Update}
 use Rattle.sa_syntax.specs.declared.stmt.Simple.{Simple}
 use Rattle.sa_syntax.specs.declared.stmt.Simple.TheVariants as simply
 use Rattle.sa_syntax.specs.declared.stmt.Call.{Call}
@@ -24,12 +24,12 @@ use Rattle.sa_syntax.specs.declared.stmt.Label.TheVariants as label
 use Rattle.sa_syntax.specs.declared.stmt.LocalDeclr.{LocalDeclr}
 use Rattle.sa_syntax.specs.declared.stmt.LocalStart.TheVariants as begins
 use Rattle.sa_syntax.specs.Trees as tree
-use Rattle.sa_syntax.specs.Words.{Names, mark, key, word, named, is_type_name, compound_of, turn_of, begins_with_star}
+use Rattle.sa_syntax.specs.Words.{Names, mark, key, word, named, is_type_name, compound_of, update_of, begins_with_star}
 use Rattle.sa_syntax.specs.Reading.{Parser, Got, Deep, same_mark, sees, expect, opens_any, opens, variable, name_at, key_at, mark_at, turns}
 use Rattle.sa_syntax.specs.ReadStmt as read
-use Rattle.sa_syntax.specs.ReadStmt.{list_from, inits_from, init_at, args_from, sees_call, turn_in}
+use Rattle.sa_syntax.specs.ReadStmt.{list_from, inits_from, init_at, args_from, sees_call, update_in}
 use Rattle.sa_syntax.proofs.Front.{same_mark-same, mark-seen}
-use Rattle.sa_syntax.proofs.StmtFront.{mark-no, compound-no_turn}
+use Rattle.sa_syntax.proofs.StmtFront.{mark-no, compound-no_update}
 
 -- ---- lists with a comma between, and a closing mark
 pub record Listed {A : Type 0} (close : Punct) (one : Parser A) (ts : List Token) (xs : List A) (us : List Token) : Type 0 where
@@ -163,17 +163,17 @@ module _ (ns : Names) (n : ℕ) where
 
   pub compound-reads : (star : Bool) (x : Place) (us vs : List Token) (p : Pos) (mk : Punct) (op : Compound) (a : Expr) → compound_of mk ≡ Some op → read.expr ns n us ≡ Got a vs → read.assigned ns n star x (mark mk p ∷ us) ≡ Got (simply.Compound x op p a) vs
   unfolding read.assigned sees mark_at
-  compound-reads star x us vs p mk op a h e = rw (mark-no compound_of m.Equal mk op h refl, compound-no_turn mk op h, h, e) refl
+  compound-reads star x us vs p mk op a h e = rw (mark-no compound_of m.Equal mk op h refl, compound-no_update mk op h, h, e) refl
 
-  pub turn-reads : (star : Bool) (x : Place) (us : List Token) (p : Pos) (mk : Punct) (t : Turn) → star ≡ false → turn_of mk ≡ Some t → read.assigned ns n star x (mark mk p ∷ us) ≡ Got (simply.After x t p) us
+  pub update-reads : (star : Bool) (x : Place) (us : List Token) (p : Pos) (mk : Punct) (t : Update) → star ≡ false → update_of mk ≡ Some t → read.assigned ns n star x (mark mk p ∷ us) ≡ Got (simply.After x t p) us
   unfolding read.assigned sees mark_at
-  turn-reads star x us p mk t none h = rw (mark-no turn_of m.Equal mk t h refl, h, none) refl
+  update-reads star x us p mk t none h = rw (mark-no update_of m.Equal mk t h refl, h, none) refl
 
-  pub before-reads : (ts us : List Token) (p : Pos) (mk : Punct) (t : Turn) (x : Place) → turn_of mk ≡ Some t → read.place ns n ts ≡ Got x us → read.simple ns n (mark mk p ∷ ts) ≡ Got (simply.Before t p x) us
+  pub before-reads : (ts us : List Token) (p : Pos) (mk : Punct) (t : Update) (x : Place) → update_of mk ≡ Some t → read.place ns n ts ≡ Got x us → read.simple ns n (mark mk p ∷ ts) ≡ Got (simply.Before t p x) us
   unfolding read.simple read.before mark_at
   before-reads ts us p mk t x h e = rw (h, e) refl
 
-  pub placed-reads : (ts us vs : List Token) (x : Place) (a : Simple) → turn_in (mark_at ts) ≡ None → read.place ns n ts ≡ Got x us → read.assigned ns n (begins_with_star ts) x us ≡ Got a vs → read.simple ns n ts ≡ Got a vs
+  pub placed-reads : (ts us vs : List Token) (x : Place) (a : Simple) → update_in (mark_at ts) ≡ None → read.place ns n ts ≡ Got x us → read.assigned ns n (begins_with_star ts) x us ≡ Got a vs → read.simple ns n ts ≡ Got a vs
   unfolding read.simple
   placed-reads ts us vs x a h e i = rw (h, e) i
 

@@ -2,6 +2,7 @@ pub mod Words
 pub mod Trees
 pub mod Expressions
 pub mod Statements
+pub mod Forms
 pub mod Reading
 pub mod ReadExpr
 pub mod ReadStmt

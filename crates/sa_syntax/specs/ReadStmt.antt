@@ -21,7 +21,7 @@ use Rattle.sa_syntax.specs.declared.decl.InitDeclr.{InitDeclr}
 use Rattle.sa_syntax.specs.declared.expr.Expr.{Expr}
 use Rattle.sa_syntax.specs.declared.expr.Place.{Place}
 use Rattle.sa_syntax.specs.declared.stmt.Compound.{Compound}
-use Rattle.sa_syntax.specs.declared.stmt.Turn.{Turn}
+use Rattle.sa_syntax.specs.declared.stmt.Update.{Update}
 use Rattle.sa_syntax.specs.declared.stmt.Simple.{Simple}
 use Rattle.sa_syntax.specs.declared.stmt.Simple.TheVariants as simply
 use Rattle.sa_syntax.specs.declared.stmt.Call.{Call}
@@ -49,7 +49,7 @@ use Rattle.sa_syntax.specs.declared.unit.Item.{Item}
 use Rattle.sa_syntax.specs.declared.unit.Item.TheVariants as top
 use Rattle.sa_syntax.specs.declared.unit.Unit.{Unit as Source}
 use Rattle.sa_syntax.specs.Trees as tree
-use Rattle.sa_syntax.specs.Words.{Names, compound_of, turn_of, begins_with_star, begins_with_else, begins_with_label, is_void_alone}
+use Rattle.sa_syntax.specs.Words.{Names, compound_of, update_of, begins_with_star, begins_with_else, begins_with_label, is_void_alone}
 use Rattle.sa_syntax.specs.Statements.{all_named}
 use Rattle.sa_syntax.specs.Reading.{Parser, Got, Stuck, Deep, ◌>>=◌, ◌>>◌, pure, refuse, sees, after, expect, opens, any_name, variable, name_at, key_at, mark_at, unless_type, many, turns}
 use Rattle.sa_syntax.specs.ReadExpr as read
@@ -156,11 +156,11 @@ abbrev pub compound_in : Option Punct → Option Compound
 compound_in None = None
 compound_in (Some m) = compound_of m
 
-abbrev pub turn_in : Option Punct → Option Turn
-turn_in None = None
-turn_in (Some m) = turn_of m
+abbrev pub update_in : Option Punct → Option Update
+update_in None = None
+update_in (Some m) = update_of m
 
-unfoldable pub before : Names → ℕ → Turn → Parser Simple
+unfoldable pub before : Names → ℕ → Update → Parser Simple
 before ns n t = do
   p ← takes
   x ← place ns n
@@ -173,21 +173,21 @@ compounded ns n x (Some op) = do
   a ← expr ns n
   pure (simply.Compound x op p a)
 
-abbrev pub turned : Names → ℕ → Bool → Place → Option Turn → Parser Simple
-turned ns n star x None ts = compounded ns n x (compound_in (mark_at ts)) ts
-turned ns n star x (Some t) ts = if star then Stuck ts else (takes >>= (λ p. pure (simply.After x t p))) ts
+abbrev pub updated : Names → ℕ → Bool → Place → Option Update → Parser Simple
+updated ns n star x None ts = compounded ns n x (compound_in (mark_at ts)) ts
+updated ns n star x (Some t) ts = if star then Stuck ts else (takes >>= (λ p. pure (simply.After x t p))) ts
 
 -- after the place
 unfoldable pub assigned : Names → ℕ → Bool → Place → Parser Simple
 assigned ns n star x ts = if sees m.Equal ts then (do p ← expect m.Equal; a ← expr ns n; pure (simply.Assign x p a)) ts
-    else turned ns n star x (turn_in (mark_at ts)) ts
+    else updated ns n star x (update_in (mark_at ts)) ts
 
-abbrev pub simple_by : Names → ℕ → Option Turn → Parser Simple
+abbrev pub simple_by : Names → ℕ → Option Update → Parser Simple
 simple_by ns n (Some t) = before ns n t
 simple_by ns n None = λ ts. (place ns n >>= assigned ns n (begins_with_star ts)) ts
 
 unfoldable pub simple : Names → ℕ → Parser Simple
-simple ns n ts = simple_by ns n (turn_in (mark_at ts)) ts
+simple ns n ts = simple_by ns n (update_in (mark_at ts)) ts
 
 -- ---- locals
 unfoldable pub local_start : Names → ℕ → Declr → Parser LocalDeclr

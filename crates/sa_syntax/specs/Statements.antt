@@ -18,7 +18,7 @@ use Rattle.sa_syntax.specs.declared.decl.InitDeclr.{InitDeclr}
 use Rattle.sa_syntax.specs.declared.expr.Expr.{Expr}
 use Rattle.sa_syntax.specs.declared.expr.Place.{Place}
 use Rattle.sa_syntax.specs.declared.stmt.Compound.{Compound}
-use Rattle.sa_syntax.specs.declared.stmt.Turn.{Turn}
+use Rattle.sa_syntax.specs.declared.stmt.Update.{Update}
 use Rattle.sa_syntax.specs.declared.stmt.Simple.{Simple}
 use Rattle.sa_syntax.specs.declared.stmt.Simple.TheVariants as simple
 use Rattle.sa_syntax.specs.declared.stmt.Call.{Call}
@@ -46,7 +46,7 @@ use Rattle.sa_syntax.specs.declared.unit.Item.{Item}
 use Rattle.sa_syntax.specs.declared.unit.Item.TheVariants as top
 use Rattle.sa_syntax.specs.declared.unit.Unit.{Unit as Source}
 use Rattle.sa_syntax.specs.Trees as tree
-use Rattle.sa_syntax.specs.Words.{Names, mark, key, word, named, is_type_name, compound_of, turn_of, begins_with_star, begins_with_else, begins_with_label, is_void_alone}
+use Rattle.sa_syntax.specs.Words.{Names, mark, key, word, named, is_type_name, compound_of, update_of, begins_with_star, begins_with_else, begins_with_label, is_void_alone}
 use Rattle.sa_syntax.specs.Expressions.{Whole, Place', Specifiers', Struct', Declr'}
 
 mutual
@@ -98,9 +98,9 @@ pub data Simple' (ns : Names) : ℕ → List Token → Simple → List Token →
       Whole ns n us a vs → Simple' ns n ts (simple.Assign x p a) vs
   compound : {n : ℕ} {ts us vs : List Token} {p : Pos} {mk : Punct} {op : Compound} {x : Place} {a : Expr} → Place' ns n ts x (mark mk p ∷ us) →
       compound_of mk ≡ Some op → Whole ns n us a vs → Simple' ns n ts (simple.Compound x op p a) vs
-  after : {n : ℕ} {ts us : List Token} {p : Pos} {mk : Punct} {t : Turn} {x : Place} → Place' ns n ts x (mark mk p ∷ us) →
-      turn_of mk ≡ Some t → begins_with_star ts ≡ false → Simple' ns n ts (simple.After x t p) us
-  before : {n : ℕ} {ts us : List Token} {p : Pos} {mk : Punct} {t : Turn} {x : Place} → turn_of mk ≡ Some t →
+  after : {n : ℕ} {ts us : List Token} {p : Pos} {mk : Punct} {t : Update} {x : Place} → Place' ns n ts x (mark mk p ∷ us) →
+      update_of mk ≡ Some t → begins_with_star ts ≡ false → Simple' ns n ts (simple.After x t p) us
+  before : {n : ℕ} {ts us : List Token} {p : Pos} {mk : Punct} {t : Update} {x : Place} → update_of mk ≡ Some t →
       Place' ns n ts x us → Simple' ns n (mark mk p ∷ ts) (simple.Before t p x) us
 
 -- ldecl = declr [ "=" ( call | init ) ]

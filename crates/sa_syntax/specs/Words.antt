@@ -17,8 +17,8 @@ use Rattle.sa_syntax.specs.declared.decl.ScalarWord.{ScalarWord}
 use Rattle.sa_syntax.specs.declared.decl.ScalarWord.TheVariants as s
 use Rattle.sa_syntax.specs.declared.stmt.Compound.{Compound}
 use Rattle.sa_syntax.specs.declared.stmt.Compound.TheVariants as c
-use Rattle.sa_syntax.specs.declared.stmt.Turn.{Turn}
-use Rattle.sa_syntax.specs.declared.stmt.Turn.TheVariants as t
+use Rattle.sa_syntax.specs.declared.stmt.Update.{Update}
+use Rattle.sa_syntax.specs.declared.stmt.Update.TheVariants as t
 use Rattle.sa_syntax.specs.declared.expr.Operator.{Operator}
 use Rattle.sa_syntax.specs.declared.expr.Operator.TheVariants as o
 use Rattle.sa_syntax.specs.declared.expr.Prefix.{Prefix}
@@ -146,10 +146,10 @@ compound_of m.CaretEqual = Some c.BitXor
 compound_of m.BarEqual = Some c.BitOr
 compound_of _ = None
 
-abbrev pub turn_of : Punct → Option Turn
-turn_of m.PlusPlus = Some t.Up
-turn_of m.MinusMinus = Some t.Down
-turn_of _ = None
+abbrev pub update_of : Punct → Option Update
+update_of m.PlusPlus = Some t.Increment
+update_of m.MinusMinus = Some t.Decrement
+update_of _ = None
 
 abbrev pub begins_with_star : List Token → Bool
 begins_with_star [] = false

@@ -7,6 +7,7 @@
 mod decl;
 mod display;
 mod expr;
+mod forms;
 mod laws;
 mod stmt;
 mod unit;
@@ -16,6 +17,7 @@ pub use decl::{
     Start, Struct,
 };
 pub use expr::{Expr, Link, Operator, Place, PlaceBase, Prefix, Step};
+pub use forms::{is_main, is_wait};
 pub use laws::{
     has_one_tree, more_room_reads_the_same, more_room_reads_the_same_source,
     readings_are_expressions, readings_are_sources, reads_declrs, reads_expressions, reads_places,
@@ -23,6 +25,6 @@ pub use laws::{
 };
 pub use stmt::{
     Arg, ArgValue, Block, BlockItem, Call, Compound, Directive, First, Group, Label, Local,
-    LocalDeclr, LocalStart, Simple, Stmt, Turn,
+    LocalDeclr, LocalStart, Simple, Stmt, Update,
 };
 pub use unit::{Item, Param, Params, Unit};

@@ -22,9 +22,9 @@ pub enum Compound {
 
 /// `++` or `--`.
 #[derive(Clone, Copy, Debug, PartialEq, Eq)]
-pub enum Turn {
-    Up,
-    Down,
+pub enum Update {
+    Increment,
+    Decrement,
 }
 
 /// An assignment.
@@ -35,9 +35,9 @@ pub enum Simple {
     /// `x += e` and the like, with the place of the operator.
     Compound(Place, Compound, Pos, Expr),
     /// `x++` or `x--`, with the place of the operator.
-    After(Place, Turn, Pos),
+    After(Place, Update, Pos),
     /// `++x` or `--x`, with the place of the operator.
-    Before(Turn, Pos, Place),
+    Before(Update, Pos, Place),
 }
 
 /// A call: the function's name, and its arguments.

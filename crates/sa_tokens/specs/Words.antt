@@ -2,8 +2,8 @@
 use Rattle.std.specs.Prelude.{ℕ, ◌+◌, ◌-◌, ◌*◌, ◌^◌, List, [], ◌∷◌, Bool, true, false, ◌&&◌, ◌||◌, not, if◌then◌else◌, nat_le, nat_lt, codes, drop, length, fold, take_while, Option, Some, None}
 use Rattle.sa_tokens.specs.declared.keyword.Keyword.{Keyword}
 use Rattle.sa_tokens.specs.declared.keyword.Keyword.TheVariants as k
-use Rattle.sa_tokens.specs.declared.number.Base.{Base}
-use Rattle.sa_tokens.specs.declared.number.Base.TheVariants.{Decimal, Octal, Hexadecimal}
+use Rattle.sa_tokens.specs.declared.number.Radix.{Radix}
+use Rattle.sa_tokens.specs.declared.number.Radix.TheVariants.{Decimal, Octal, Hexadecimal}
 use Rattle.sa_tokens.specs.declared.number.Suffix.{Suffix}
 use Rattle.sa_tokens.specs.declared.token.Word.{Word}
 use Rattle.sa_tokens.specs.declared.token.Word.TheVariants as w
@@ -45,26 +45,26 @@ digit_value b =
     (if nat_le 65 b && nat_le b 70 then b - 55 else
     (if nat_le 97 b && nat_le b 102 then b - 87 else 16))
 
-abbrev pub radix : Base → ℕ
-radix Decimal = 10
-radix Octal = 8
-radix Hexadecimal = 16
+abbrev pub base : Radix → ℕ
+base Decimal = 10
+base Octal = 8
+base Hexadecimal = 16
 
-abbrev pub is_digit_in : Base → ℕ → Bool
-is_digit_in base b = nat_lt (digit_value b) (radix base)
+abbrev pub is_digit_in : Radix → ℕ → Bool
+is_digit_in radix b = nat_lt (digit_value b) (base radix)
 
 -- hexadecimal after `0x` or `0X`, else octal after a leading 0, else decimal
-abbrev pub base_of : List ℕ → Base
-base_of s = if begins (codes "0x") s || begins (codes "0X") s then Hexadecimal else (if begins (codes "0") s then Octal else Decimal)
+abbrev pub radix_of : List ℕ → Radix
+radix_of s = if begins (codes "0x") s || begins (codes "0X") s then Hexadecimal else (if begins (codes "0") s then Octal else Decimal)
 
 -- the spelling without the two bytes that only tell its base
-abbrev pub after_prefix : Base → List ℕ → List ℕ
+abbrev pub after_prefix : Radix → List ℕ → List ℕ
 after_prefix Decimal s = s
 after_prefix Octal s = s
 after_prefix Hexadecimal s = drop 2 s
 
-abbrev pub value_of : Base → List ℕ → ℕ
-value_of base digits = fold (λ v d. v * radix base + digit_value d) 0 digits
+abbrev pub value_of : Radix → List ℕ → ℕ
+value_of radix digits = fold (λ v d. v * base radix + digit_value d) 0 digits
 
 -- at most one `u`, and one or two `l` of one case, in either order
 abbrev pub suffix : Bool → ℕ → Suffix
@@ -82,27 +82,27 @@ suffixes =
 unfoldable pub suffix_of : List ℕ → Option Suffix
 suffix_of s = look_up s suffixes
 
-abbrev pub is_decimal : Base → Bool
+abbrev pub is_decimal : Radix → Bool
 is_decimal Decimal = true
 is_decimal Octal = false
 is_decimal Hexadecimal = false
 
 -- a decimal number without `u` is a signed one
-abbrev pub greatest : Base → Suffix → ℕ
-greatest base s = if is_decimal base && not s.unsigned then 2 ^ 63 - 1 else 2 ^ 64 - 1
+abbrev pub greatest : Radix → Suffix → ℕ
+greatest radix s = if is_decimal radix && not s.unsigned then 2 ^ 63 - 1 else 2 ^ 64 - 1
 
-abbrev pub number_in : Base → ℕ → Suffix → Option Word
-number_in base v s = if nat_le v (greatest base s) then Some (w.Number v s.unsigned s.longs (is_decimal base)) else None
+abbrev pub number_in : Radix → ℕ → Suffix → Option Word
+number_in radix v s = if nat_le v (greatest radix s) then Some (w.Number v s.unsigned s.longs (is_decimal radix)) else None
 
-abbrev pub number_with : Base → List ℕ → Option Suffix → Option Word
-number_with base [] s = None
-number_with base (d ∷ ds) None = None
-number_with base (d ∷ ds) (Some s) = number_in base (value_of base (d ∷ ds)) s
+abbrev pub number_with : Radix → List ℕ → Option Suffix → Option Word
+number_with radix [] s = None
+number_with radix (d ∷ ds) None = None
+number_with radix (d ∷ ds) (Some s) = number_in radix (value_of radix (d ∷ ds)) s
 
 -- digits of the base, at least one, and a suffix
-abbrev pub number_from : Base → List ℕ → Option Word
-number_from base s = let digits = take_while (is_digit_in base) s in number_with base digits (suffix_of (drop (length digits) s))
+abbrev pub number_from : Radix → List ℕ → Option Word
+number_from radix s = let digits = take_while (is_digit_in radix) s in number_with radix digits (suffix_of (drop (length digits) s))
 
 -- the number that is spelled so, None where no number is
 unfoldable pub number_of : List ℕ → Option Word
-number_of s = number_from (base_of s) (after_prefix (base_of s) s)
+number_of s = number_from (radix_of s) (after_prefix (radix_of s) s)

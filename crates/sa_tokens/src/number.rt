@@ -2,26 +2,27 @@
 
 ghost use Rattle.std.specs.Prelude.{◌≡◌, ◌≤◌, ◌^◌, ◌-◌, Some, None, if◌then◌else◌, nat_le, length, drop};
 ghost use Rattle.std.specs.List.{prefix_len};
-ghost use Rattle.sa_tokens.specs.Words.{digit_value, radix, is_digit_in, base_of, after_prefix, value_of, suffix_of, greatest, is_decimal, number_in, number_with, number_from, number_of};
+ghost use Rattle.sa_tokens.specs.Words.{digit_value, base, is_digit_in, radix_of, after_prefix, value_of, suffix_of, greatest, is_decimal, number_in, number_with, number_from, number_of};
 
 use crate::bytes::is_digit;
 use crate::token::Word;
 
+/// The radix that a number is spelled in.
 #[derive(Clone, Copy, Debug, PartialEq, Eq)]
-pub enum Base {
+pub enum Radix {
     Decimal,
     Octal,
     Hexadecimal,
 }
 
-impl Base {
-    fn radix(self) -> u8
-        ensures { result ≡ radix self }
+impl Radix {
+    fn base(self) -> u8
+        ensures { result ≡ base self }
     {
         match self {
-            Base::Decimal => 10,
-            Base::Octal => 8,
-            Base::Hexadecimal => 16,
+            Radix::Decimal => 10,
+            Radix::Octal => 8,
+            Radix::Hexadecimal => 16,
         }
     }
 
@@ -29,19 +30,19 @@ impl Base {
         ensures { result ≡ is_decimal self }
     {
         match self {
-            Base::Decimal => true,
-            Base::Octal | Base::Hexadecimal => false,
+            Radix::Decimal => true,
+            Radix::Octal | Radix::Hexadecimal => false,
         }
     }
 
-    /// The base of a number that is spelled so.
-    fn of(spelling: &[u8]) -> Base
-        ensures { result ≡ base_of spelling.now }
+    /// The radix of a number that is spelled so.
+    fn of(spelling: &[u8]) -> Radix
+        ensures { result ≡ radix_of spelling.now }
     {
         match spelling {
-            [b'0', b'x' | b'X', ..] => Base::Hexadecimal,
-            [b'0', ..] => Base::Octal,
-            _ => Base::Decimal,
+            [b'0', b'x' | b'X', ..] => Radix::Hexadecimal,
+            [b'0', ..] => Radix::Octal,
+            _ => Radix::Decimal,
         }
     }
 }
@@ -68,18 +69,18 @@ fn digit_value(b: u8) -> u8
     }
 }
 
-fn is_digit_in(base: Base, b: u8) -> bool
-    ensures { result ≡ is_digit_in base b }
+fn is_digit_in(radix: Radix, b: u8) -> bool
+    ensures { result ≡ is_digit_in radix b }
 {
-    digit_value(b) < base.radix()
+    digit_value(b) < radix.base()
 }
 
 /// How many digits stand at the front.
-fn digits_len(base: Base, text: &[u8]) -> usize
-    ensures value { result ≡ prefix_len (is_digit_in base) text.now }
+fn digits_len(radix: Radix, text: &[u8]) -> usize
+    ensures value { result ≡ prefix_len (is_digit_in radix) text.now }
     ensures within { result ≤ length text.now }
 {
-    text.iter().take_while(|b| is_digit_in(base, **b)).count()
+    text.iter().take_while(|b| is_digit_in(radix, **b)).count()
 }
 
 #[tactic(auto, unfolding(crate::specs::Words::suffix_of))]
@@ -99,12 +100,12 @@ fn read_suffix(text: &[u8]) -> Option<Suffix>
 }
 
 /// The value of the digits, None above 2^64 - 1.
-fn value(base: Base, digits: &[u8]) -> Option<u64>
-    ensures { result ≡ (if nat_le (value_of base digits.now) (2 ^ 64 - 1) then Some (value_of base digits.now) else None) }
+fn value(radix: Radix, digits: &[u8]) -> Option<u64>
+    ensures { result ≡ (if nat_le (value_of radix digits.now) (2 ^ 64 - 1) then Some (value_of radix digits.now) else None) }
 {
     let mut value = 0u128;
     for d in digits {
-        value = value * u128::from(base.radix()) + u128::from(digit_value(*d));
+        value = value * u128::from(radix.base()) + u128::from(digit_value(*d));
         if value > u128::from(u64::MAX) {
             return None;
         }
@@ -113,55 +114,55 @@ fn value(base: Base, digits: &[u8]) -> Option<u64>
 }
 
 /// The greatest value: a decimal number without `u` is a signed one.
-fn greatest(base: Base, suffix: Suffix) -> u64
-    ensures { result ≡ greatest base suffix }
+fn greatest(radix: Radix, suffix: Suffix) -> u64
+    ensures { result ≡ greatest radix suffix }
 {
-    if base.is_decimal() && !suffix.unsigned {
+    if radix.is_decimal() && !suffix.unsigned {
         i64::MAX as u64
     } else {
         u64::MAX
     }
 }
 
-fn number_in(base: Base, value: u64, suffix: Suffix) -> Option<Word>
-    ensures { result ≡ number_in base value suffix }
+fn number_in(radix: Radix, value: u64, suffix: Suffix) -> Option<Word>
+    ensures { result ≡ number_in radix value suffix }
 {
-    if value <= greatest(base, suffix) {
+    if value <= greatest(radix, suffix) {
         Some(Word::Number {
             value,
             unsigned: suffix.unsigned,
             longs: suffix.longs,
-            decimal: base.is_decimal(),
+            decimal: radix.is_decimal(),
         })
     } else {
         None
     }
 }
 
-fn number_with(base: Base, digits: &[u8], suffix: Option<Suffix>) -> Option<Word>
-    ensures { result ≡ number_with base digits.now suffix }
+fn number_with(radix: Radix, digits: &[u8], suffix: Option<Suffix>) -> Option<Word>
+    ensures { result ≡ number_with radix digits.now suffix }
 {
     if digits.is_empty() {
         return None;
     }
     let suffix = suffix?;
-    let value = value(base, digits)?;
-    number_in(base, value, suffix)
+    let value = value(radix, digits)?;
+    number_in(radix, value, suffix)
 }
 
-fn number_from(base: Base, text: &[u8]) -> Option<Word>
-    ensures { result ≡ number_from base text.now }
+fn number_from(radix: Radix, text: &[u8]) -> Option<Word>
+    ensures { result ≡ number_from radix text.now }
 {
-    let (digits, rest) = text.split_at(digits_len(base, text));
-    number_with(base, digits, read_suffix(rest))
+    let (digits, rest) = text.split_at(digits_len(radix, text));
+    number_with(radix, digits, read_suffix(rest))
 }
 
-fn after_prefix(base: Base, spelling: &[u8]) -> &[u8]
-    ensures { result.now ≡ after_prefix base spelling.now }
+fn after_prefix(radix: Radix, spelling: &[u8]) -> &[u8]
+    ensures { result.now ≡ after_prefix radix spelling.now }
 {
-    match base {
-        Base::Decimal | Base::Octal => spelling,
-        Base::Hexadecimal => &spelling[2.min(spelling.len())..],
+    match radix {
+        Radix::Decimal | Radix::Octal => spelling,
+        Radix::Hexadecimal => &spelling[2.min(spelling.len())..],
     }
 }
 
@@ -170,6 +171,6 @@ fn after_prefix(base: Base, spelling: &[u8]) -> &[u8]
 pub fn number(spelling: &[u8]) -> Option<Word>
     ensures { result ≡ number_of spelling.now }
 {
-    let base = Base::of(spelling);
-    number_from(base, after_prefix(base, spelling))
+    let radix = Radix::of(spelling);
+    number_from(radix, after_prefix(radix, spelling))
 }

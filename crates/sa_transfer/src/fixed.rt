@@ -8,7 +8,7 @@ ghost use Rattle.sa_cells.specs.Grounds.{IsGround};
 ghost use Rattle.sa_transfer.specs.Lists.{HasTypedStep, HasTypedSteps, fixed_reached};
 
 use crate::OutOfMemory;
-use crate::values::{single, with_reach};
+use crate::values::with_reach;
 use sa_cells::{Ground, named};
 use sa_reference::Reach;
 use sa_typed::{Access, Program, Step, fixed_index};
@@ -20,7 +20,7 @@ fn element(i: Option<u32>) -> Option<Reach>
 {
     match i {
         None => None,
-        Some(i) => Some(Reach::At(single(u64::from(i)))),
+        Some(i) => Some(Reach::At(Interval::single(i128::from(i)))),
     }
 }
 

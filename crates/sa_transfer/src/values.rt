@@ -32,14 +32,6 @@ use std::alloc::Global;
 
 // ---- operations, where an operand may be missing
 
-/// One number.
-pub fn single(n: u64) -> Interval
-    ensures { result ≡ single (pos n) }
-{
-    let n = i128::from(n);
-    Interval::new(n, n)
-}
-
 #[tactic(auto, using(sa_operators::proofs::CodeLaws::noted_nothing))]
 /// What an operator before its operand makes of it, with its alarm.
 fn prefixed(
@@ -207,7 +199,11 @@ pub fn with_reach(
 pub fn cell_span(spans: &[Interval], k: usize) -> Interval
     ensures { result ≡ cell_span spans.now k }
 {
-    if k < spans.len() { spans[k] } else { single(0) }
+    if k < spans.len() {
+        spans[k]
+    } else {
+        Interval::single(0)
+    }
 }
 
 /// The least interval that holds what was read so far and one more.
@@ -263,7 +259,7 @@ fn span_of(
     ensures alarms { OnOk result (alarms.new.items ≡ alarms.old.items ++ noted checking (alarms_of program.now (widest program.now) env.now e.now)) }
 {
     match e {
-        Expr::Number(n, _) => Ok(Some(single(*n))),
+        Expr::Number(n, _) => Ok(Some(Interval::single(i128::from(*n)))),
         Expr::Read(access, _) => {
             let ks = named_cells(alloc, program, ground, env, access, checking, alarms)?;
             Ok(read_of(env.cells.as_slice(), &ks))

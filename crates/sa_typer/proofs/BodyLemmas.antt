@@ -4,7 +4,8 @@ use Rattle.std.specs.Prelude.{option_map}
 use Rattle.std.specs.Bool.{then_some}
 use Rattle.std.specs.Borrow.{Bor}
 use Rattle.sa_syntax.specs.declared.stmt.BlockItem.{BlockItem}
-use Rattle.sa_typer.specs.Bodies.{is_wait, before_wait}
+use Rattle.sa_syntax.specs.Forms.{is_wait}
+use Rattle.sa_typer.specs.Bodies.{before_wait}
 use Rattle.std.proofs.Common.{◌∙◌}
 
 pub before-none : (is : List BlockItem) → length is ≡ 0 → before_wait is ≡ None

@@ -40,7 +40,7 @@ use Rattle.sa_operands.specs.Places.{access, access_of}
 use Rattle.sa_operands.specs.Expressions.{expr}
 use Rattle.sa_declarations.specs.Declarations.{local}
 use Rattle.sa_scopes.specs.Scopes.{Scope, oldest, count}
-use Rattle.sa_typer.specs.Statements.{mismatched, to_number, to_struct, to_form, assigned, compound_of, turn_of, one, sort_by, compounded_number, compounded_by, compounded, left_side, simple, left_scope, scoped, directive, stmt, items, item}
+use Rattle.sa_typer.specs.Statements.{mismatched, to_number, to_struct, to_form, assigned, compound_of, update_of, one, sort_by, compounded_number, compounded_by, compounded, left_side, simple, left_scope, scoped, directive, stmt, items, item}
 use Rattle.sa_scopes.specs.Typing.{Typed, Typing, Gives, and_then, pure, each}
 use Rattle.sa_operands.proofs.RowLaws.{AllStmts, stmts_append, access_typed, access_fixed, simple_typed, block_typed}
 use Rattle.sa_scopes.proofs.WalkLaws.{Ends, Later, Well, Leads, Any, gives, refuses, refusal, bind, next, from, free, so, unless}
@@ -180,8 +180,8 @@ module _ (p : Program) where
   unfolding simple
   simple_leads (x.Assign y q i) s = next (left_leads y s) (λ l t. next (right_leads i t) (λ j u. from (λ h. (h.0.1, h.1)) (assigned_leads l q j u)))
   simple_leads (x.Compound y o q i) s = next (left_leads y s) (λ l t. next (right_leads i t) (λ j u. from (λ h. (h.0.1, h.1)) (compounded_leads l (compound_of o) q j u)))
-  simple_leads (x.After y o q) s = next (left_leads y s) (λ l t. from (λ h. h.1) (by_one l (turn_of o) q t))
-  simple_leads (x.Before o q y) s = next (left_leads y s) (λ l t. from (λ h. h.1) (by_one l (turn_of o) q t))
+  simple_leads (x.After y o q) s = next (left_leads y s) (λ l t. from (λ h. h.1) (by_one l (update_of o) q t))
+  simple_leads (x.Before o q y) s = next (left_leads y s) (λ l t. from (λ h. h.1) (by_one l (update_of o) q t))
 
   -- ---- scopes
   scope_later : (names tags : ℕ) (s : Typer) → Later p s (record s { names = oldest names s.names; tags = oldest tags s.tags })

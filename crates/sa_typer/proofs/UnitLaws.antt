@@ -38,7 +38,8 @@ use Rattle.sa_typer.specs.Statements.{item}
 use Rattle.sa_typer.specs.Bodies as body
 use Rattle.sa_typer.specs.Bodies.{block, clock_stmt, no_body, main_by, main_item, main_items, main_block, clock_loop}
 use Rattle.sa_typer.specs.Units as unit
-use Rattle.sa_typer.specs.Units.{plain_type, type_name, is_main, first_main, main, blank, Answer, Accepts, Refuses, TooManyCells, has_entry, program, cells, result_of, result_cells, refusals_by, refusals_in, refusals, accepted_by, accepted_in, unless_refused, answer}
+use Rattle.sa_syntax.specs.Forms.{is_main}
+use Rattle.sa_typer.specs.Units.{plain_type, type_name, first_main, main, blank, Answer, Accepts, Refuses, TooManyCells, has_entry, program, cells, result_of, result_cells, refusals_by, refusals_in, refusals, accepted_by, accepted_in, unless_refused, answer}
 use Rattle.sa_scopes.specs.Refusals.{least_of}
 use Rattle.sa_scopes.specs.Typing.{Typed, Typing, Gives, and_then, pure, each, fault}
 use Rattle.sa_scopes.proofs.StructLaws.{RefersBelow, DefsBelow, IsFront, weight, cells_weight, AreSized, size_weight, sizes_known}

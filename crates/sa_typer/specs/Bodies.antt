@@ -12,6 +12,7 @@ use Rattle.sa_syntax.specs.declared.stmt.First.{First}
 use Rattle.sa_syntax.specs.declared.stmt.First.TheVariants as first
 use Rattle.sa_syntax.specs.declared.stmt.Simple.{Simple}
 use Rattle.sa_syntax.specs.declared.stmt.Stmt.{Stmt as Tree, out-Stmt}
+use Rattle.sa_syntax.specs.Forms.{is_wait}
 use Rattle.sa_typed.specs.declared.stmt.LoopKind.TheVariants as kind
 use Rattle.sa_typed.specs.declared.stmt.Stmt.{Stmt}
 use Rattle.sa_typed.specs.declared.stmt.Stmt.TheVariants as t
@@ -29,12 +30,6 @@ unfoldable pub block : List BlockItem → Typing (List Stmt)
 block is = scoped (items is [])
 
 -- ---- the clock loop: `while (1)` or `for (;;)` with a block that ends with a wait
-abbrev pub is_wait_stmt : Tree → Bool
-is_wait_stmt a = elim (out-Stmt a) as (λ _. Bool) [ Stmt-F.Directive p d.Wait ↦ true | _ ↦ false ]
-
-abbrev pub is_wait : BlockItem → Bool
-is_wait i = elim (out-BlockItem i) as (λ _. Bool) [ BlockItem-F.Local l ↦ false | BlockItem-F.Stmt a ↦ is_wait_stmt a ]
-
 -- what stands before the wait that a block ends with
 unfoldable pub before_wait : List BlockItem → Option (List BlockItem)
 before_wait [] = None

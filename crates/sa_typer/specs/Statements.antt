@@ -14,8 +14,8 @@ use Rattle.sa_syntax.specs.declared.stmt.Simple as from
 use Rattle.sa_syntax.specs.declared.stmt.Simple.TheVariants as x
 use Rattle.sa_syntax.specs.declared.stmt.Stmt as stmts
 use Rattle.sa_syntax.specs.declared.stmt.Stmt.{Row_of-BlockItem, end_of-BlockItem, more_of-BlockItem}
-use Rattle.sa_syntax.specs.declared.stmt.Turn.{Turn}
-use Rattle.sa_syntax.specs.declared.stmt.Turn.TheVariants as turn
+use Rattle.sa_syntax.specs.declared.stmt.Update.{Update}
+use Rattle.sa_syntax.specs.declared.stmt.Update.TheVariants as update
 use Rattle.sa_syntax.specs.declared.stmt.Directive.{Directive}
 use Rattle.sa_syntax.specs.declared.stmt.Directive.TheVariants as d
 use Rattle.sa_syntax.specs.declared.stmt.First.{First}
@@ -92,9 +92,9 @@ compound_of c.BitAnd = op.BitAnd
 compound_of c.BitXor = op.BitXor
 compound_of c.BitOr = op.BitOr
 
-abbrev pub turn_of : Turn → Operator
-turn_of turn.Up = op.Plus
-turn_of turn.Down = op.Minus
+abbrev pub update_of : Update → Operator
+update_of update.Increment = op.Plus
+update_of update.Decrement = op.Minus
 
 abbrev pub one : Operand
 one = a.Number (e.Number 1 I32) I32 Varies
@@ -126,8 +126,8 @@ left_side x = spot x >>= (λ l. refuse_if l.locked 6 (place_pos x) >> pure l)
 unfoldable pub simple : from.Simple → Typing Simple
 simple (x.Assign y p i) = left_side y >>= (λ l. expr i >>= (λ i. assigned l p i))
 simple (x.Compound y o p i) = left_side y >>= (λ l. expr i >>= (λ i. compounded l (compound_of o) p i))
-simple (x.After y o p) = left_side y >>= (λ l. compounded l (turn_of o) p one)
-simple (x.Before o p y) = left_side y >>= (λ l. compounded l (turn_of o) p one)
+simple (x.After y o p) = left_side y >>= (λ l. compounded l (update_of o) p one)
+simple (x.Before o p y) = left_side y >>= (λ l. compounded l (update_of o) p one)
 
 -- ---- statements
 -- what is declared in a block is visible to its end

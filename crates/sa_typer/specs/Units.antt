@@ -1,6 +1,5 @@
 -- Sources: what a tree is typed as, or how it is refused.
-use Rattle.std.specs.Prelude.{ℕ, ◌≡◌, Result, Ok, Err, ◌+◌, List, [], ◌∷◌, ◌++◌, ◌&&◌, Bool, true, false, if◌then◌else◌, map, nat_le, Option, Some, None, codes}
-use Rattle.std.specs.Str.{bytes_eq}
+use Rattle.std.specs.Prelude.{ℕ, ◌≡◌, Result, Ok, Err, ◌+◌, List, [], ◌∷◌, ◌++◌, ◌&&◌, Bool, true, false, if◌then◌else◌, map, nat_le, Option, Some, None}
 use Rattle.sa_base.specs.Numbers.{limit_number}
 use Rattle.sa_base.specs.declared.limit.Limit.TheVariants.{Cells}
 use Rattle.sa_base.specs.declared.num.Num.{Num}
@@ -14,6 +13,7 @@ use Rattle.sa_syntax.specs.declared.stmt.Block.{Block, out-Block}
 use Rattle.sa_syntax.specs.declared.unit.Item.{Item}
 use Rattle.sa_syntax.specs.declared.unit.Item.TheVariants as top
 use Rattle.sa_syntax.specs.declared.unit.Unit.{Unit as Source}
+use Rattle.sa_syntax.specs.Forms.{is_main}
 use Rattle.sa_typed.specs.declared.program.Func.{Func}
 use Rattle.sa_typed.specs.declared.program.Program.{Program}
 use Rattle.sa_typer.specs.declared.bodies.Body.{Body}
@@ -43,9 +43,6 @@ plain_type ty = qualifiers false true (out-Specifiers ty).qualifiers >> type_of 
 
 unfoldable pub type_name : Specifiers → Name → Typing (Unit {0})
 type_name ty x = plain_type ty >>= (λ t. named x (n.Alias t))
-
-abbrev pub is_main : Name → Bool
-is_main x = bytes_eq x.text (codes "main")
 
 abbrev pub entry : Name → Ty → Body → Entry
 entry x ty b = record { name = x.text; result = ty.element; body = b }

@@ -9,27 +9,12 @@ use crate::statement::{block, item, leave};
 use sa_base::{OutOfMemory, Pos};
 use sa_scopes::first::item_pos;
 use sa_scopes::typer::Typer;
-use sa_syntax::{BlockItem, Directive, Expr, First, Simple};
+use sa_syntax::{BlockItem, Expr, First, Simple, is_wait};
 use sa_typed::{LoopKind, Stmt};
 use sqlite_items::{Boxed, Items};
 use std::alloc::Global;
 
 // ---- the clock loop
-
-fn is_wait_stmt(stmt: &sa_syntax::Stmt) -> bool
-    ensures { result ≡ spec.is_wait_stmt stmt.now }
-{
-    matches!(stmt, sa_syntax::Stmt::Directive(_, Directive::Wait))
-}
-
-fn is_wait(item: &BlockItem) -> bool
-    ensures { result ≡ spec.is_wait item.now }
-{
-    match item {
-        BlockItem::Local(_) => false,
-        BlockItem::Stmt(stmt) => is_wait_stmt(stmt),
-    }
-}
 
 /// What stands before the wait that a block ends with.
 fn before_wait(items: &[BlockItem]) -> Option<&[BlockItem]>

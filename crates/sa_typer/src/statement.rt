@@ -14,7 +14,7 @@ use sa_scopes::constant::{Value, working};
 use sa_scopes::first::place_pos;
 use sa_scopes::form::Form;
 use sa_scopes::typer::Typer;
-use sa_syntax::{Block, BlockItem, Compound, Directive, Place, Turn};
+use sa_syntax::{Block, BlockItem, Compound, Directive, Place, Update};
 use sa_typed::{Access, Expr, Operator, Simple, Stmt};
 use sqlite_items::Items;
 use std::alloc::Global;
@@ -110,12 +110,12 @@ fn compound_of(op: Compound) -> Operator
     }
 }
 
-fn turn_of(turn: Turn) -> Operator
-    ensures { result ≡ spec.turn_of turn }
+fn update_of(update: Update) -> Operator
+    ensures { result ≡ spec.update_of update }
 {
-    match turn {
-        Turn::Up => Operator::Plus,
-        Turn::Down => Operator::Minus,
+    match update {
+        Update::Increment => Operator::Plus,
+        Update::Decrement => Operator::Minus,
     }
 }
 
@@ -209,13 +209,13 @@ pub fn simple<'a>(
             let operand = expr(alloc, typer, value)?;
             compounded(typer, left, compound_of(*op), *pos, operand)
         }
-        sa_syntax::Simple::After(place, turn, pos) => {
+        sa_syntax::Simple::After(place, update, pos) => {
             let left = left_side(alloc, typer, place)?;
-            compounded(typer, left, turn_of(*turn), *pos, one())
+            compounded(typer, left, update_of(*update), *pos, one())
         }
-        sa_syntax::Simple::Before(turn, pos, place) => {
+        sa_syntax::Simple::Before(update, pos, place) => {
             let left = left_side(alloc, typer, place)?;
-            compounded(typer, left, turn_of(*turn), *pos, one())
+            compounded(typer, left, update_of(*update), *pos, one())
         }
     }
 }

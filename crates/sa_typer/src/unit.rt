@@ -22,7 +22,7 @@ use sa_scopes::scope::Scope;
 use sa_scopes::structs::Structs;
 use sa_scopes::typer::{Fault, Typer, least_of, lesser};
 use sa_scopes::types::{Element, Named, Ty, check_qualifiers};
-use sa_syntax::{Block, Item, Name, Specifiers, Unit};
+use sa_syntax::{Block, Item, Name, Specifiers, Unit, is_main};
 use sa_typed::{Func, Program};
 use sqlite_items::Items;
 use std::alloc::Global;
@@ -52,12 +52,6 @@ fn type_name<'a>(
 {
     let ty = plain_type(alloc, typer, ty)?;
     declare(typer, name, Named::Alias(ty))
-}
-
-fn is_main(name: &Name) -> bool
-    ensures { result ≡ spec.is_main name.now }
-{
-    name.text.bytes() == "main".as_bytes()
 }
 
 fn entry(alloc: Global, name: &Name, ty: Ty, body: Body) -> Result<Entry, OutOfMemory>

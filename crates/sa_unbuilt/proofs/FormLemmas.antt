@@ -26,7 +26,8 @@ use Rattle.sa_syntax.specs.declared.expr.Prefix.{Prefix}
 use Rattle.sa_syntax.specs.declared.expr.Link.{Link}
 use Rattle.sa_syntax.specs.declared.expr.Place.{Place}
 use Rattle.sa_syntax.specs.declared.expr.Step.TheVariants as step
-use Rattle.sa_unbuilt.specs.Unbuilt.{◌or◌, first_in, in_operator, in_expr, in_links, in_link, in_step, in_steps, in_place, in_base, in_specifiers, in_struct, in_fields, in_field, in_declrs, in_declr, in_bounds, in_bound, in_init, in_inits, in_simple, in_directive, in_local, in_stmt, in_item, in_row, is_wait, ends_with_wait}
+use Rattle.sa_syntax.specs.Forms.{is_wait}
+use Rattle.sa_unbuilt.specs.Unbuilt.{◌or◌, first_in, in_operator, in_expr, in_links, in_link, in_step, in_steps, in_place, in_base, in_specifiers, in_struct, in_fields, in_field, in_declrs, in_declr, in_bounds, in_bound, in_init, in_inits, in_simple, in_directive, in_local, in_stmt, in_item, in_row, ends_with_wait}
 
 -- ---- lists
 next : {A : Type 0} (xs : List A) (i : ℕ) (x : A) → i < length xs → x ≡ get_or xs i x → drop i xs ≡ x ∷ drop (i + 1) xs

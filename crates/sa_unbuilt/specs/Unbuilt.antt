@@ -3,10 +3,10 @@
 -- form, `while (1)` or `for (;;)` with a block that ends with the wait. Not built are prototypes, other functions and static
 -- names of a block, each at the first token of its type; calls, at the called name; `&&`, `||` and `?`, at the mark; and
 -- `if`, `switch`, `do`, other `while` and `for`, `break`, `return` and directives other than the wait, at the word.
-use Rattle.std.specs.Prelude.{◌==◌, ◌&&◌, not, List, [], ◌∷◌, Bool, true, false, if◌then◌else◌, Option, Some, None, ◌≡◌, codes}
+use Rattle.std.specs.Prelude.{◌==◌, ◌&&◌, not, List, [], ◌∷◌, Bool, true, false, if◌then◌else◌, Option, Some, None, ◌≡◌}
 use Rattle.std.specs.List.{list_any}
-use Rattle.std.specs.Str.{bytes_eq}
 use Rattle.sa_base.specs.declared.pos.Pos.{Pos}
+use Rattle.sa_syntax.specs.Forms.{is_wait, is_main}
 use Rattle.sa_syntax.specs.declared.decl.Name.{Name}
 use Rattle.sa_syntax.specs.declared.decl.Qualified.{Qualified}
 use Rattle.sa_syntax.specs.declared.decl.Qualifier.TheVariants as q
@@ -219,12 +219,6 @@ abbrev pub is_endless : First → Option Expr → Option Simple → Bool
 is_endless first.Nothing None None = true
 is_endless _ _ _ = false
 
-abbrev pub is_wait_stmt : Stmt → Bool
-is_wait_stmt a = elim (out-Stmt a) as (λ _. Bool) [ Stmt-F.Directive p d.Wait ↦ true | _ ↦ false ]
-
-unfoldable pub is_wait : BlockItem → Bool
-is_wait i = elim (out-BlockItem i) as (λ _. Bool) [ BlockItem-F.Local l ↦ false | BlockItem-F.Stmt a ↦ is_wait_stmt a ]
-
 unfoldable pub ends_with_wait : List BlockItem → Bool
 ends_with_wait [] = false
 ends_with_wait (i ∷ []) = is_wait i
@@ -250,16 +244,13 @@ in_main_stmt a = elim (out-Stmt a) as (λ _. Option Pos) [
 unfoldable pub in_main_item : BlockItem → Option Pos
 in_main_item i = elim (out-BlockItem i) as (λ _. Option Pos) [ BlockItem-F.Local l ↦ in_local l | BlockItem-F.Stmt a ↦ in_main_stmt a ]
 
+-- `()` and `(void)`
 abbrev pub is_empty_list : Params → Bool
 is_empty_list (given.List ps) = false
 is_empty_list _ = true
 
--- `main()` and `main(void)`
-unfoldable pub is_main : Name → Params → Bool
-is_main x ps = bytes_eq x.text (codes "main") && is_empty_list ps
-
 unfoldable pub in_func : Specifiers → Name → Params → Block → Option Pos
-in_func ty x ps b = if is_main x ps then in_specifiers ty or first_in in_main_item (out-Block b).items else Some (out-Specifiers ty).pos
+in_func ty x ps b = if is_main x && is_empty_list ps then in_specifiers ty or first_in in_main_item (out-Block b).items else Some (out-Specifiers ty).pos
 
 -- ---- the whole
 unfoldable pub in_top : Item → Option Pos

@@ -2,9 +2,8 @@
 //!
 //! Each function here looks at one kind of part, and fails with the place of the first form in it that isn't built.
 
-ghost use Rattle.std.specs.Prelude.{◌≡◌, codes};
+ghost use Rattle.std.specs.Prelude.{◌≡◌};
 ghost use Rattle.std.specs.List.{list_any};
-ghost use Rattle.std.specs.Str.{bytes_eq};
 ghost use Rattle.std.specs.Result.{result_err};
 ghost use Rattle.sa_unbuilt.specs.Unbuilt as spec;
 ghost use Rattle.sa_unbuilt.specs.Unbuilt.{first_in};
@@ -13,7 +12,7 @@ use sa_base::Pos;
 use sa_syntax::{
     Base, Block, BlockItem, Bound, Declr, Directive, Expr, Field, First, Init, InitDeclr, Item,
     Link, Local, LocalDeclr, LocalStart, Name, Operator, Params, Place, Qualified, Qualifier,
-    Simple, Specifiers, Start, Step, Stmt, Struct, Unit,
+    Simple, Specifiers, Start, Step, Stmt, Struct, Unit, is_main, is_wait,
 };
 
 // ---- expressions, places and types
@@ -369,13 +368,6 @@ fn is_endless(first: &First, condition: &Option<Expr>, next: &Option<Simple>) ->
     matches!((first, condition, next), (First::Nothing, None, None))
 }
 
-#[tactic(auto, unfolding(crate::specs::Unbuilt::is_wait))]
-fn is_wait(item: &BlockItem) -> bool
-    ensures { result ≡ spec.is_wait item.now }
-{
-    matches!(item, BlockItem::Stmt(Stmt::Directive(_, Directive::Wait)))
-}
-
 #[tactic(auto, using(crate::proofs::FormLemmas::of_ends))]
 fn ends_with_wait(items: &[BlockItem]) -> bool
     ensures { result ≡ spec.ends_with_wait items.now }
@@ -443,12 +435,6 @@ fn check_main_items(items: &[BlockItem]) -> Result<(), Pos>
     Ok(())
 }
 
-fn is_named_main(name: &Name) -> bool
-    ensures { result ≡ bytes_eq name.now.text (codes "main") }
-{
-    name.text.bytes() == "main".as_bytes()
-}
-
 fn is_empty_list(params: &Params) -> bool
     ensures { result ≡ spec.is_empty_list params.now }
 {
@@ -458,18 +444,11 @@ fn is_empty_list(params: &Params) -> bool
     }
 }
 
-#[tactic(auto, unfolding(crate::specs::Unbuilt::is_main))]
-fn is_main(name: &Name, params: &Params) -> bool
-    ensures { result ≡ spec.is_main name.now params.now }
-{
-    is_named_main(name) && is_empty_list(params)
-}
-
 #[tactic(auto, unfolding(crate::specs::Unbuilt::in_func))]
 fn check_func(ty: &Specifiers, name: &Name, params: &Params, body: &Block) -> Result<(), Pos>
     ensures { result_err result ≡ spec.in_func ty.now name.now params.now body.now }
 {
-    if !is_main(name, params) {
+    if !(is_main(name) && is_empty_list(params)) {
         return Err(ty.pos);
     }
     check_specifiers(ty)?;

@@ -104,7 +104,7 @@ impl Interval {
         ensures { result ≡ and_of self o full }
     {
         if self.are_single(o) {
-            return single(self.lo & o.lo);
+            return Interval::single(self.lo & o.lo);
         }
         match (self.is_not_negative(), o.is_not_negative()) {
             (true, true) => Interval {
@@ -125,7 +125,7 @@ impl Interval {
         ensures { result ≡ or_of self o full }
     {
         if self.are_single(o) {
-            single(self.lo | o.lo)
+            Interval::single(self.lo | o.lo)
         } else if self.are_not_negative(o) {
             Interval {
                 lo: self.lo.max(o.lo),
@@ -144,7 +144,7 @@ impl Interval {
         ensures { result ≡ xor_of self o full }
     {
         if self.are_single(o) {
-            single(self.lo ^ o.lo)
+            Interval::single(self.lo ^ o.lo)
         } else if self.are_not_negative(o) {
             from_zero(self.mask_of_highs(o))
         } else {
@@ -249,14 +249,6 @@ fn right_shift(x: i128, count: u32) -> i128
     ensures bound { IsBound result }
 {
     x >> count
-}
-
-/// One number.
-fn single(z: i128) -> Interval
-    requires { IsBound z }
-    ensures { result ≡ single z }
-{
-    Interval { lo: z, hi: z }
 }
 
 /// The numbers from 0 to `hi`.

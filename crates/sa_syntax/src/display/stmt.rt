@@ -5,7 +5,7 @@ use crate::decl::{Init, InitDeclr, Start};
 use crate::expr::Expr;
 use crate::stmt::{
     ArgValue, Block, BlockItem, Call, Compound, Directive, First, Group, Label, Local, LocalStart,
-    Simple, Stmt, Turn,
+    Simple, Stmt, Update,
 };
 use std::fmt;
 
@@ -57,10 +57,10 @@ fn compound_text(op: Compound) -> &'static str {
     }
 }
 
-fn turn_text(turn: Turn) -> &'static str {
-    match turn {
-        Turn::Up => "++ ",
-        Turn::Down => "-- ",
+fn update_text(update: Update) -> &'static str {
+    match update {
+        Update::Increment => "++ ",
+        Update::Decrement => "-- ",
     }
 }
 
@@ -76,12 +76,12 @@ fn show_simple<W: fmt::Write>(simple: &Simple, f: &mut fmt::Formatter<W>) -> fmt
             f.write_str(compound_text(*op))?;
             show_expr(value, f)
         }
-        Simple::After(place, turn, _) => {
+        Simple::After(place, update, _) => {
             show_place(place, f)?;
-            f.write_str(turn_text(*turn))
+            f.write_str(update_text(*update))
         }
-        Simple::Before(turn, _, place) => {
-            f.write_str(turn_text(*turn))?;
+        Simple::Before(update, _, place) => {
+            f.write_str(update_text(*update))?;
             show_place(place, f)
         }
     }

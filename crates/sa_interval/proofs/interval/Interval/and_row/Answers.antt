@@ -5,9 +5,13 @@ use Rattle.std.proofs.lemmas.Int.{ints, clamps}
 use Rattle.sa_interval.proofs.BitOps.{and_keeps, ends_bound, high_up, and_row_both}
 use Rattle.sa_interval.proofs.interval.Interval.and_row.Goals as goal
 
-pub single-requires : goal.single-requires
-single-requires c =
-    ends_bound (int_bit_and w128) and_keeps _ _ c.args.full c.requires.full (rw (← c.self.view_is) at c.requires.first) (rw (← c.o.view_is) at c.requires.second) c.self.invariant.ordered c.o.invariant.ordered
+pub single-requires-clause-low : goal.single-requires-clause-low
+single-requires-clause-low c =
+    (ends_bound (int_bit_and w128) and_keeps _ _ c.args.full c.requires.full (rw (← c.self.view_is) at c.requires.first) (rw (← c.o.view_is) at c.requires.second) c.self.invariant.ordered c.o.invariant.ordered).low
+
+pub single-requires-clause-high : goal.single-requires-clause-high
+single-requires-clause-high c =
+    (ends_bound (int_bit_and w128) and_keeps _ _ c.args.full c.requires.full (rw (← c.self.view_is) at c.requires.first) (rw (← c.o.view_is) at c.requires.second) c.self.invariant.ordered c.o.invariant.ordered).high
 
 pub invariant_of-result : goal.invariant_of-result
 invariant_of-result c =
