@@ -3,6 +3,7 @@ pub mod Layouts
 pub mod Evaluation
 pub mod Executions
 pub mod Cells
+pub mod Frames
 pub mod Lines
 pub mod Constants
 pub mod WellTyped
