@@ -1,0 +1,4 @@
+pub mod Initial
+pub mod Sizes
+pub mod Slots
+pub mod Spots

@@ -8,6 +8,8 @@
 mod expr;
 mod ir;
 mod node;
+mod sizes;
+mod slots;
 
 pub use expr::{IrExpr, IrLink, IrPlace, Row};
 pub use ir::{Cell, Ends, Ir, LoopInfo};

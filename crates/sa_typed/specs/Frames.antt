@@ -58,8 +58,8 @@ abbrev pub home_cells : Program → Home → ℕ
 home_cells p h = cells_from p h 0 p.vars
 
 -- of those that are declared before the variable with this number
-abbrev pub cells_before : Program → Home → ℕ → ℕ
-cells_before p h v = cells_from p h 0 (take v p.vars)
+abbrev pub offset_of : Program → Home → ℕ → ℕ
+offset_of p h v = cells_from p h 0 (take v p.vars)
 
 -- ---- calls
 unfoldable pub indices_of : {n : _} → Row_of-Step n → ℕ
