@@ -10,3 +10,4 @@ pub mod SpotLemmas
 pub mod CoreLemmas
 pub mod FieldLemmas
 pub mod GroundLemmas
+mod Samples

@@ -1,4 +1,11 @@
 pub mod Initial
+pub mod Names
 pub mod Sizes
 pub mod Slots
 pub mod Spots
+pub mod Frames
+pub mod Places
+pub mod Nodes
+pub mod Occurrences
+pub mod Shown
+pub mod Lowered

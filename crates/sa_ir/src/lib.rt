@@ -6,6 +6,7 @@
 #![tactic(auto)]
 
 mod expr;
+mod frame;
 mod ir;
 mod node;
 mod sizes;
