@@ -35,7 +35,21 @@ use Rattle.sa_ir.specs.declared.expr.Row.TheVariants as rows
 use Rattle.sa_ir.specs.declared.node.IrAssign.TheVariants as assign
 use Rattle.sa_ir.specs.declared.node.Node.{Node}
 use Rattle.sa_ir.specs.declared.node.Node.TheVariants as node
-use Rattle.sa_ir.specs.Places.{only}
+use Rattle.sa_typed.specs.Cells.{inner_cells, is_starred}
+use Rattle.sa_typed.specs.Constants.{is_constant, constant_value, fixed_index}
+use Rattle.sa_typed.specs.Frames.{size, refers, some_refers, cells_from, indices_of, read_indices, all_kept, frame_cells, cells_in, loops_in, body_cells as count_cells, body_loops}
+use Rattle.sa_typed.specs.Layouts.{layout_of, layout_with, rows as rows_around}
+use Rattle.sa_typed.specs.WellTyped.{type_of, links_type}
+use Rattle.sa_typed.specs.declared.expr.Expr.TheBlock.{hidden-the_row-Step-0, hidden-the_row-Expr-1, hidden-the_row-Link-2, hidden-the_row-Expr-3}
+use Rattle.sa_typed.specs.declared.stmt.Stmt.TheBlock.{hidden-the_row-Stmt-0, hidden-the_row-Stmt-1, hidden-the_row-Group-2}
+use Rattle.sa_ir.specs.declared.expr.IrExpr.TheBlock as ir_block
+use Rattle.sa_ir.specs.declared.node.Node.TheBlock as node_block
+use Rattle.sa_ir.specs.Frames.{program_cells, cells_at, object_cells, call_cells, body_cells, stmt_cells, index_cells, read_cells, own_target}
+use Rattle.sa_ir.specs.Names.{pos_text, steps_text, var_text, call_text, loop_text}
+use Rattle.sa_ir.specs.Nodes.{simple, bound, called_frame, kept, read_kept, all_passed, called, nodes, all_nodes, in_block, body_nodes}
+use Rattle.sa_ir.specs.Occurrences.{every, led, rows_cells, expr_cells, read_cells as named_cells, assign_cells, node_cells}
+use Rattle.sa_ir.specs.Places.{only, stride_of, cells_to, lowered, read_lowered, fields_cells, kept_rows, read_target}
+use Rattle.sa_ir.specs.Shown.{body_infos, loops, shown, with_all, places_at, is_within, in_scope, param_spans}
 use Rattle.sa_ir.specs.Lowered.{lowered_program}
 
 abbrev at : ℕ → ℕ → Pos
@@ -94,14 +108,14 @@ aliased = program
     ∷ function (codes "add") (reference 2 ∷ reference 3 ∷ []) None (count 2 ∷ count 3 ∷ []) ∷ [])
 
 aliased_cells : (lowered_program aliased).cells ≡ cell (codes "s") ∷ cell (codes "t") ∷ []
-unfolding lowered_program
+unfolding lowered_program inner_cells is_starred is_constant constant_value fixed_index size refers some_refers cells_from indices_of read_indices all_kept frame_cells cells_in loops_in count_cells body_loops layout_of layout_with rows_around type_of links_type hidden-the_row-Step-0 hidden-the_row-Expr-1 hidden-the_row-Link-2 hidden-the_row-Expr-3 hidden-the_row-Stmt-0 hidden-the_row-Stmt-1 hidden-the_row-Group-2 denote.Hole.Carrier.hidden ir_block.hidden-the_row-Row-0 ir_block.hidden-the_row-IrExpr-1 ir_block.hidden-the_row-IrLink-2 node_block.hidden-the_row-Node-0 node_block.hidden-the_row-Node-1 program_cells cells_at object_cells call_cells body_cells stmt_cells index_cells read_cells own_target steps_text var_text call_text loop_text simple bound called_frame kept read_kept all_passed called nodes all_nodes in_block body_nodes every led rows_cells expr_cells named_cells assign_cells node_cells stride_of cells_to lowered read_lowered fields_cells kept_rows read_target body_infos loops shown with_all places_at is_within in_scope param_spans
 aliased_cells = refl
 
 aliased_body : (lowered_program aliased).body ≡
     node.Loop 0 kind.Clock None (node.Block (node.Block (counted (only 0) ∷ counted (only 1) ∷ []) ∷ node.Block (counted (only 0) ∷ counted (only 0) ∷ []) ∷ node.Wait ∷ [])) None ∷ []
-unfolding lowered_program
+unfolding lowered_program inner_cells is_starred is_constant constant_value fixed_index size refers some_refers cells_from indices_of read_indices all_kept frame_cells cells_in loops_in count_cells body_loops layout_of layout_with rows_around type_of links_type hidden-the_row-Step-0 hidden-the_row-Expr-1 hidden-the_row-Link-2 hidden-the_row-Expr-3 hidden-the_row-Stmt-0 hidden-the_row-Stmt-1 hidden-the_row-Group-2 denote.Hole.Carrier.hidden ir_block.hidden-the_row-Row-0 ir_block.hidden-the_row-IrExpr-1 ir_block.hidden-the_row-IrLink-2 node_block.hidden-the_row-Node-0 node_block.hidden-the_row-Node-1 program_cells cells_at object_cells call_cells body_cells stmt_cells index_cells read_cells own_target steps_text var_text call_text loop_text simple bound called_frame kept read_kept all_passed called nodes all_nodes in_block body_nodes every led rows_cells expr_cells named_cells assign_cells node_cells stride_of cells_to lowered read_lowered fields_cells kept_rows read_target body_infos loops shown with_all places_at is_within in_scope param_spans
 aliased_body = refl
 
-aliased_loops : (lowered_program aliased).loops ≡ record { name = codes "3:3"; shown = 0 ∷ 1 ∷ [] } ∷ []
-unfolding lowered_program
+aliased_loops : (lowered_program aliased).loops ≡ record { name = [] ++ pos_text (at 3 3); shown = 0 ∷ 1 ∷ [] } ∷ []
+unfolding lowered_program inner_cells is_starred is_constant constant_value fixed_index size refers some_refers cells_from indices_of read_indices all_kept frame_cells cells_in loops_in count_cells body_loops layout_of layout_with rows_around type_of links_type hidden-the_row-Step-0 hidden-the_row-Expr-1 hidden-the_row-Link-2 hidden-the_row-Expr-3 hidden-the_row-Stmt-0 hidden-the_row-Stmt-1 hidden-the_row-Group-2 denote.Hole.Carrier.hidden ir_block.hidden-the_row-Row-0 ir_block.hidden-the_row-IrExpr-1 ir_block.hidden-the_row-IrLink-2 node_block.hidden-the_row-Node-0 node_block.hidden-the_row-Node-1 program_cells cells_at object_cells call_cells body_cells stmt_cells index_cells read_cells own_target steps_text var_text call_text loop_text simple bound called_frame kept read_kept all_passed called nodes all_nodes in_block body_nodes every led rows_cells expr_cells named_cells assign_cells node_cells stride_of cells_to lowered read_lowered fields_cells kept_rows read_target body_infos loops shown with_all places_at is_within in_scope param_spans
 aliased_loops = refl
