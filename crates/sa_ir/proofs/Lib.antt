@@ -10,4 +10,9 @@ pub mod SpotLemmas
 pub mod CoreLemmas
 pub mod FieldLemmas
 pub mod GroundLemmas
+pub mod NameLemmas
+pub mod InsideLemmas
+pub mod TableLemmas
+pub mod TypeLemmas
+pub mod CallLemmas
 mod Samples

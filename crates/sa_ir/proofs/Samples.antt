@@ -119,3 +119,75 @@ aliased_body = refl
 aliased_loops : (lowered_program aliased).loops ≡ record { name = [] ++ pos_text (at 3 3); shown = 0 ∷ 1 ∷ [] } ∷ []
 unfolding lowered_program inner_cells is_starred is_constant constant_value fixed_index size refers some_refers cells_from indices_of read_indices all_kept frame_cells cells_in loops_in count_cells body_loops layout_of layout_with rows_around type_of links_type hidden-the_row-Step-0 hidden-the_row-Expr-1 hidden-the_row-Link-2 hidden-the_row-Expr-3 hidden-the_row-Stmt-0 hidden-the_row-Stmt-1 hidden-the_row-Group-2 denote.Hole.Carrier.hidden ir_block.hidden-the_row-Row-0 ir_block.hidden-the_row-IrExpr-1 ir_block.hidden-the_row-IrLink-2 node_block.hidden-the_row-Node-0 node_block.hidden-the_row-Node-1 program_cells cells_at object_cells call_cells body_cells stmt_cells index_cells read_cells own_target steps_text var_text call_text loop_text simple bound called_frame kept read_kept all_passed called nodes all_nodes in_block body_nodes every led rows_cells expr_cells named_cells assign_cells node_cells stride_of cells_to lowered read_lowered fields_cells kept_rows read_target body_infos loops shown with_all places_at is_within in_scope param_spans
 aliased_loops = refl
+
+-- ---- `void f(void) { static int n; n = n + 1; }`, called at two places: n is one cell, and isn't in scope at main's loop
+abbrev counting : Program
+counting = program (variable (codes "n") (at 7 14) [] home.Static ∷ [])
+    (turning (stmt.Call (at 4 5) 1 [] None ∷ stmt.Call (at 5 5) 1 [] None ∷ []) ∷ function (codes "f") [] None (stmt.Scope 0 ∷ count 0 ∷ []) ∷ [])
+
+counting_cells : (lowered_program counting).cells ≡ cell (codes "n" ++ (codes "@" ++ pos_text (at 7 14))) ∷ []
+unfolding lowered_program inner_cells is_starred is_constant constant_value fixed_index size refers some_refers cells_from indices_of read_indices all_kept frame_cells cells_in loops_in count_cells body_loops layout_of layout_with rows_around type_of links_type hidden-the_row-Step-0 hidden-the_row-Expr-1 hidden-the_row-Link-2 hidden-the_row-Expr-3 hidden-the_row-Stmt-0 hidden-the_row-Stmt-1 hidden-the_row-Group-2 denote.Hole.Carrier.hidden ir_block.hidden-the_row-Row-0 ir_block.hidden-the_row-IrExpr-1 ir_block.hidden-the_row-IrLink-2 node_block.hidden-the_row-Node-0 node_block.hidden-the_row-Node-1 program_cells cells_at object_cells call_cells body_cells stmt_cells index_cells read_cells own_target steps_text var_text call_text loop_text simple bound called_frame kept read_kept all_passed called nodes all_nodes in_block body_nodes every led rows_cells expr_cells named_cells assign_cells node_cells stride_of cells_to lowered read_lowered fields_cells kept_rows read_target body_infos loops shown with_all places_at is_within in_scope param_spans
+counting_cells = refl
+
+counting_body : (lowered_program counting).body ≡
+    node.Loop 0 kind.Clock None (node.Block (node.Block (counted (only 0) ∷ []) ∷ node.Block (counted (only 0) ∷ []) ∷ node.Wait ∷ [])) None ∷ []
+unfolding lowered_program inner_cells is_starred is_constant constant_value fixed_index size refers some_refers cells_from indices_of read_indices all_kept frame_cells cells_in loops_in count_cells body_loops layout_of layout_with rows_around type_of links_type hidden-the_row-Step-0 hidden-the_row-Expr-1 hidden-the_row-Link-2 hidden-the_row-Expr-3 hidden-the_row-Stmt-0 hidden-the_row-Stmt-1 hidden-the_row-Group-2 denote.Hole.Carrier.hidden ir_block.hidden-the_row-Row-0 ir_block.hidden-the_row-IrExpr-1 ir_block.hidden-the_row-IrLink-2 node_block.hidden-the_row-Node-0 node_block.hidden-the_row-Node-1 program_cells cells_at object_cells call_cells body_cells stmt_cells index_cells read_cells own_target steps_text var_text call_text loop_text simple bound called_frame kept read_kept all_passed called nodes all_nodes in_block body_nodes every led rows_cells expr_cells named_cells assign_cells node_cells stride_of cells_to lowered read_lowered fields_cells kept_rows read_target body_infos loops shown with_all places_at is_within in_scope param_spans
+counting_body = refl
+
+counting_loops : (lowered_program counting).loops ≡ record { name = [] ++ pos_text (at 3 3); shown = [] } ∷ []
+unfolding lowered_program inner_cells is_starred is_constant constant_value fixed_index size refers some_refers cells_from indices_of read_indices all_kept frame_cells cells_in loops_in count_cells body_loops layout_of layout_with rows_around type_of links_type hidden-the_row-Step-0 hidden-the_row-Expr-1 hidden-the_row-Link-2 hidden-the_row-Expr-3 hidden-the_row-Stmt-0 hidden-the_row-Stmt-1 hidden-the_row-Group-2 denote.Hole.Carrier.hidden ir_block.hidden-the_row-Row-0 ir_block.hidden-the_row-IrExpr-1 ir_block.hidden-the_row-IrLink-2 node_block.hidden-the_row-Node-0 node_block.hidden-the_row-Node-1 program_cells cells_at object_cells call_cells body_cells stmt_cells index_cells read_cells own_target steps_text var_text call_text loop_text simple bound called_frame kept read_kept all_passed called nodes all_nodes in_block body_nodes every led rows_cells expr_cells named_cells assign_cells node_cells stride_of cells_to lowered read_lowered fields_cells kept_rows read_target body_infos loops shown with_all places_at is_within in_scope param_spans
+counting_loops = refl
+
+-- ---- `void g(int k) { while (k) k = k + 1; }`, called at two places: k is a cell on each path, and so is the loop
+abbrev looping : Program
+looping = program (variable (codes "k") (at 7 12) [] (home.Local 1) ∷ [])
+    (turning (stmt.Call (at 4 5) 1 (ByValue (at 4 6) (number 1) ∷ []) None ∷ stmt.Call (at 5 5) 1 (ByValue (at 5 6) (number 2) ∷ []) None ∷ [])
+    ∷ function (codes "g") (record { var = 0; reference = false } ∷ []) None (stmt.Loop (at 7 17) kind.While (Some (value 0)) (count 0) None ∷ []) ∷ [])
+
+abbrev path : ℕ → List ℕ
+path line = [] ++ (codes "g" ++ (codes "@" ++ (pos_text (at line 5) ++ codes "/")))
+
+abbrev waits : ℕ → ℕ → Node
+waits loop k = node.Block (node.Loop loop kind.While (Some (ir.Read (only k) I32)) (node.Block (counted (only k) ∷ [])) None ∷ [])
+
+looping_cells : (lowered_program looping).cells ≡ cell (path 4 ++ (codes "k" ++ (codes "@" ++ pos_text (at 7 12)))) ∷ cell (path 5 ++ (codes "k" ++ (codes "@" ++ pos_text (at 7 12)))) ∷ []
+unfolding lowered_program inner_cells is_starred is_constant constant_value fixed_index size refers some_refers cells_from indices_of read_indices all_kept frame_cells cells_in loops_in count_cells body_loops layout_of layout_with rows_around type_of links_type hidden-the_row-Step-0 hidden-the_row-Expr-1 hidden-the_row-Link-2 hidden-the_row-Expr-3 hidden-the_row-Stmt-0 hidden-the_row-Stmt-1 hidden-the_row-Group-2 denote.Hole.Carrier.hidden ir_block.hidden-the_row-Row-0 ir_block.hidden-the_row-IrExpr-1 ir_block.hidden-the_row-IrLink-2 node_block.hidden-the_row-Node-0 node_block.hidden-the_row-Node-1 program_cells cells_at object_cells call_cells body_cells stmt_cells index_cells read_cells own_target steps_text var_text call_text loop_text simple bound called_frame kept read_kept all_passed called nodes all_nodes in_block body_nodes every led rows_cells expr_cells named_cells assign_cells node_cells stride_of cells_to lowered read_lowered fields_cells kept_rows read_target body_infos loops shown with_all places_at is_within in_scope param_spans
+looping_cells = refl
+
+looping_body : (lowered_program looping).body ≡
+    node.Loop 0 kind.Clock None (node.Block (node.Assign (assign.Value (only 0) I32 (at 4 6) (ir.Number 1 I32)) ∷ waits 1 0
+    ∷ node.Assign (assign.Value (only 1) I32 (at 5 6) (ir.Number 2 I32)) ∷ waits 2 1 ∷ node.Wait ∷ [])) None ∷ []
+unfolding lowered_program inner_cells is_starred is_constant constant_value fixed_index size refers some_refers cells_from indices_of read_indices all_kept frame_cells cells_in loops_in count_cells body_loops layout_of layout_with rows_around type_of links_type hidden-the_row-Step-0 hidden-the_row-Expr-1 hidden-the_row-Link-2 hidden-the_row-Expr-3 hidden-the_row-Stmt-0 hidden-the_row-Stmt-1 hidden-the_row-Group-2 denote.Hole.Carrier.hidden ir_block.hidden-the_row-Row-0 ir_block.hidden-the_row-IrExpr-1 ir_block.hidden-the_row-IrLink-2 node_block.hidden-the_row-Node-0 node_block.hidden-the_row-Node-1 program_cells cells_at object_cells call_cells body_cells stmt_cells index_cells read_cells own_target steps_text var_text call_text loop_text simple bound called_frame kept read_kept all_passed called nodes all_nodes in_block body_nodes every led rows_cells expr_cells named_cells assign_cells node_cells stride_of cells_to lowered read_lowered fields_cells kept_rows read_target body_infos loops shown with_all places_at is_within in_scope param_spans
+looping_body = refl
+
+looping_loops : (lowered_program looping).loops ≡
+    record { name = [] ++ pos_text (at 3 3); shown = [] } ∷ record { name = path 4 ++ pos_text (at 7 17); shown = 0 ∷ [] } ∷ record { name = path 5 ++ pos_text (at 7 17); shown = 1 ∷ [] } ∷ []
+unfolding lowered_program inner_cells is_starred is_constant constant_value fixed_index size refers some_refers cells_from indices_of read_indices all_kept frame_cells cells_in loops_in count_cells body_loops layout_of layout_with rows_around type_of links_type hidden-the_row-Step-0 hidden-the_row-Expr-1 hidden-the_row-Link-2 hidden-the_row-Expr-3 hidden-the_row-Stmt-0 hidden-the_row-Stmt-1 hidden-the_row-Group-2 denote.Hole.Carrier.hidden ir_block.hidden-the_row-Row-0 ir_block.hidden-the_row-IrExpr-1 ir_block.hidden-the_row-IrLink-2 node_block.hidden-the_row-Node-0 node_block.hidden-the_row-Node-1 program_cells cells_at object_cells call_cells body_cells stmt_cells index_cells read_cells own_target steps_text var_text call_text loop_text simple bound called_frame kept read_kept all_passed called nodes all_nodes in_block body_nodes every led rows_cells expr_cells named_cells assign_cells node_cells stride_of cells_to lowered read_lowered fields_cells kept_rows read_target body_infos loops shown with_all places_at is_within in_scope param_spans
+looping_loops = refl
+
+-- ---- `int a[3]; void g(int *p) { *p = *p + 1; } void f(int *q) { g(q); }`, and `f(&a[0])` in each turn: the index is kept once
+abbrev chained : Program
+chained = program (variable (codes "a") (at 1 5) (3 ∷ []) home.Global ∷ variable (codes "p") (at 2 13) [] (home.Local 1) ∷ variable (codes "q") (at 3 13) [] (home.Local 2) ∷ [])
+    (turning (stmt.Call (at 4 5) 2 (ByReference (element 0 (at 4 9) 3 (number 0)) ∷ []) None ∷ [])
+    ∷ function (codes "g") (reference 1 ∷ []) None (count 1 ∷ []) ∷ function (codes "f") (reference 2 ∷ []) None (stmt.Call (at 3 18) 1 (ByReference (whole 2) ∷ []) None ∷ []) ∷ [])
+
+abbrev kept_place : IrPlace
+kept_place = record { first = 0; rows = rows.Kept 3 3 1 ∷ [] }
+
+chained_body : (lowered_program chained).body ≡
+    node.Loop 0 kind.Clock None (node.Block (node.Assign (assign.Keep 3 (at 4 9) 3 (ir.Number 0 I32)) ∷ node.Block (node.Block (counted kept_place ∷ []) ∷ []) ∷ node.Wait ∷ [])) None ∷ []
+unfolding lowered_program inner_cells is_starred is_constant constant_value fixed_index size refers some_refers cells_from indices_of read_indices all_kept frame_cells cells_in loops_in count_cells body_loops layout_of layout_with rows_around type_of links_type hidden-the_row-Step-0 hidden-the_row-Expr-1 hidden-the_row-Link-2 hidden-the_row-Expr-3 hidden-the_row-Stmt-0 hidden-the_row-Stmt-1 hidden-the_row-Group-2 denote.Hole.Carrier.hidden ir_block.hidden-the_row-Row-0 ir_block.hidden-the_row-IrExpr-1 ir_block.hidden-the_row-IrLink-2 node_block.hidden-the_row-Node-0 node_block.hidden-the_row-Node-1 program_cells cells_at object_cells call_cells body_cells stmt_cells index_cells read_cells own_target steps_text var_text call_text loop_text simple bound called_frame kept read_kept all_passed called nodes all_nodes in_block body_nodes every led rows_cells expr_cells named_cells assign_cells node_cells stride_of cells_to lowered read_lowered fields_cells kept_rows read_target body_infos loops shown with_all places_at is_within in_scope param_spans
+chained_body = refl
+
+chained_loops : (lowered_program chained).loops ≡ record { name = [] ++ pos_text (at 3 3); shown = 0 ∷ 1 ∷ 2 ∷ [] } ∷ []
+unfolding lowered_program inner_cells is_starred is_constant constant_value fixed_index size refers some_refers cells_from indices_of read_indices all_kept frame_cells cells_in loops_in count_cells body_loops layout_of layout_with rows_around type_of links_type hidden-the_row-Step-0 hidden-the_row-Expr-1 hidden-the_row-Link-2 hidden-the_row-Expr-3 hidden-the_row-Stmt-0 hidden-the_row-Stmt-1 hidden-the_row-Group-2 denote.Hole.Carrier.hidden ir_block.hidden-the_row-Row-0 ir_block.hidden-the_row-IrExpr-1 ir_block.hidden-the_row-IrLink-2 node_block.hidden-the_row-Node-0 node_block.hidden-the_row-Node-1 program_cells cells_at object_cells call_cells body_cells stmt_cells index_cells read_cells own_target steps_text var_text call_text loop_text simple bound called_frame kept read_kept all_passed called nodes all_nodes in_block body_nodes every led rows_cells expr_cells named_cells assign_cells node_cells stride_of cells_to lowered read_lowered fields_cells kept_rows read_target body_infos loops shown with_all places_at is_within in_scope param_spans
+chained_loops = refl
+
+-- ---- `for (int i = 0; i < 9; ) a[i] = i;`, the local declared before its loop: it is shown at it, and not at main's
+abbrev stepping : Program
+stepping = program (variable (codes "a") (at 1 5) (2 ∷ []) home.Global ∷ variable (codes "i") (at 4 14) [] (home.Local 0) ∷ [])
+    (turning (stmt.Block (stmt.Simple (Declare 1 (begins.Value (at 4 16) (number 0))) ∷ stmt.Loop (at 4 5) kind.While None (stmt.Simple (Assign (element 0 (at 4 30) 2 (value 1)) I32 (at 4 33) (value 1))) None ∷ []) ∷ []) ∷ [])
+
+stepping_loops : (lowered_program stepping).loops ≡ record { name = [] ++ pos_text (at 3 3); shown = 0 ∷ 1 ∷ [] } ∷ record { name = [] ++ pos_text (at 4 5); shown = 0 ∷ 1 ∷ 2 ∷ [] } ∷ []
+unfolding lowered_program inner_cells is_starred is_constant constant_value fixed_index size refers some_refers cells_from indices_of read_indices all_kept frame_cells cells_in loops_in count_cells body_loops layout_of layout_with rows_around type_of links_type hidden-the_row-Step-0 hidden-the_row-Expr-1 hidden-the_row-Link-2 hidden-the_row-Expr-3 hidden-the_row-Stmt-0 hidden-the_row-Stmt-1 hidden-the_row-Group-2 denote.Hole.Carrier.hidden ir_block.hidden-the_row-Row-0 ir_block.hidden-the_row-IrExpr-1 ir_block.hidden-the_row-IrLink-2 node_block.hidden-the_row-Node-0 node_block.hidden-the_row-Node-1 program_cells cells_at object_cells call_cells body_cells stmt_cells index_cells read_cells own_target steps_text var_text call_text loop_text simple bound called_frame kept read_kept all_passed called nodes all_nodes in_block body_nodes every led rows_cells expr_cells named_cells assign_cells node_cells stride_of cells_to lowered read_lowered fields_cells kept_rows read_target body_infos loops shown with_all places_at is_within in_scope param_spans
+stepping_loops = refl

@@ -1,9 +1,12 @@
 pub mod Initial
 pub mod Names
+pub mod Naming
 pub mod Sizes
 pub mod Slots
 pub mod Spots
+pub mod Tables
 pub mod Frames
+pub mod Lists
 pub mod Places
 pub mod Nodes
 pub mod Occurrences

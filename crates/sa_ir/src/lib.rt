@@ -5,12 +5,15 @@
 //! that aren't folded into it; no variable, field, call or parameter is left in it.
 #![tactic(auto)]
 
+mod cells;
 mod expr;
 mod frame;
 mod ir;
+mod names;
 mod node;
 mod sizes;
 mod slots;
+mod table;
 
 pub use expr::{IrExpr, IrLink, IrPlace, Row};
 pub use ir::{Cell, Ends, Ir, LoopInfo};
