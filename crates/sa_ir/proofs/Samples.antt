@@ -35,7 +35,7 @@ use Rattle.sa_ir.specs.declared.expr.Row.TheVariants as rows
 use Rattle.sa_ir.specs.declared.node.IrAssign.TheVariants as assign
 use Rattle.sa_ir.specs.declared.node.Node.{Node}
 use Rattle.sa_ir.specs.declared.node.Node.TheVariants as node
-use Rattle.sa_typed.specs.Cells.{inner_cells, is_starred}
+use Rattle.sa_typed.specs.Cells.{inner_cells, each_behind, all_behind, is_starred}
 use Rattle.sa_typed.specs.Constants.{is_constant, constant_value, fixed_index}
 use Rattle.sa_typed.specs.Frames.{size, refers, some_refers, cells_from, indices_of, read_indices, all_kept, frame_cells, cells_in, loops_in, body_cells as count_cells, body_loops}
 use Rattle.sa_typed.specs.Layouts.{layout_of, layout_with, rows as rows_around}
@@ -47,7 +47,7 @@ use Rattle.sa_ir.specs.declared.node.Node.TheBlock as node_block
 use Rattle.sa_ir.specs.Frames.{program_cells, cells_at, object_cells, call_cells, body_cells, stmt_cells, index_cells, read_cells, own_target}
 use Rattle.sa_ir.specs.Names.{pos_text, steps_text, var_text, call_text, loop_text}
 use Rattle.sa_ir.specs.Nodes.{simple, bound, called_frame, kept, read_kept, all_passed, called, nodes, all_nodes, in_block, body_nodes}
-use Rattle.sa_ir.specs.Occurrences.{every, led, rows_cells, expr_cells, read_cells as named_cells, assign_cells, node_cells}
+use Rattle.sa_ir.specs.Occurrences.{is_constant as is_settled, every, led, rows_cells, expr_cells, read_cells as named_cells, assign_cells, node_cells}
 use Rattle.sa_ir.specs.Places.{only, stride_of, cells_to, lowered, read_lowered, fields_cells, kept_rows, read_target}
 use Rattle.sa_ir.specs.Shown.{body_infos, loops, shown, with_all, places_at, is_within, in_scope, param_spans}
 use Rattle.sa_ir.specs.Lowered.{lowered_program}
@@ -108,16 +108,16 @@ aliased = program
     ∷ function (codes "add") (reference 2 ∷ reference 3 ∷ []) None (count 2 ∷ count 3 ∷ []) ∷ [])
 
 aliased_cells : (lowered_program aliased).cells ≡ cell (codes "s") ∷ cell (codes "t") ∷ []
-unfolding lowered_program inner_cells is_starred is_constant constant_value fixed_index size refers some_refers cells_from indices_of read_indices all_kept frame_cells cells_in loops_in count_cells body_loops layout_of layout_with rows_around type_of links_type hidden-the_row-Step-0 hidden-the_row-Expr-1 hidden-the_row-Link-2 hidden-the_row-Expr-3 hidden-the_row-Stmt-0 hidden-the_row-Stmt-1 hidden-the_row-Group-2 denote.Hole.Carrier.hidden ir_block.hidden-the_row-Row-0 ir_block.hidden-the_row-IrExpr-1 ir_block.hidden-the_row-IrLink-2 node_block.hidden-the_row-Node-0 node_block.hidden-the_row-Node-1 program_cells cells_at object_cells call_cells body_cells stmt_cells index_cells read_cells own_target steps_text var_text call_text loop_text simple bound called_frame kept read_kept all_passed called nodes all_nodes in_block body_nodes every led rows_cells expr_cells named_cells assign_cells node_cells stride_of cells_to lowered read_lowered fields_cells kept_rows read_target body_infos loops shown with_all places_at is_within in_scope param_spans
+unfolding lowered_program each_behind all_behind is_settled inner_cells is_starred is_constant constant_value fixed_index size refers some_refers cells_from indices_of read_indices all_kept frame_cells cells_in loops_in count_cells body_loops layout_of layout_with rows_around type_of links_type hidden-the_row-Step-0 hidden-the_row-Expr-1 hidden-the_row-Link-2 hidden-the_row-Expr-3 hidden-the_row-Stmt-0 hidden-the_row-Stmt-1 hidden-the_row-Group-2 denote.Hole.Carrier.hidden ir_block.hidden-the_row-Row-0 ir_block.hidden-the_row-IrExpr-1 ir_block.hidden-the_row-IrLink-2 node_block.hidden-the_row-Node-0 node_block.hidden-the_row-Node-1 program_cells cells_at object_cells call_cells body_cells stmt_cells index_cells read_cells own_target steps_text var_text call_text loop_text simple bound called_frame kept read_kept all_passed called nodes all_nodes in_block body_nodes every led rows_cells expr_cells named_cells assign_cells node_cells stride_of cells_to lowered read_lowered fields_cells kept_rows read_target body_infos loops shown with_all places_at is_within in_scope param_spans
 aliased_cells = refl
 
 aliased_body : (lowered_program aliased).body ≡
     node.Loop 0 kind.Clock None (node.Block (node.Block (counted (only 0) ∷ counted (only 1) ∷ []) ∷ node.Block (counted (only 0) ∷ counted (only 0) ∷ []) ∷ node.Wait ∷ [])) None ∷ []
-unfolding lowered_program inner_cells is_starred is_constant constant_value fixed_index size refers some_refers cells_from indices_of read_indices all_kept frame_cells cells_in loops_in count_cells body_loops layout_of layout_with rows_around type_of links_type hidden-the_row-Step-0 hidden-the_row-Expr-1 hidden-the_row-Link-2 hidden-the_row-Expr-3 hidden-the_row-Stmt-0 hidden-the_row-Stmt-1 hidden-the_row-Group-2 denote.Hole.Carrier.hidden ir_block.hidden-the_row-Row-0 ir_block.hidden-the_row-IrExpr-1 ir_block.hidden-the_row-IrLink-2 node_block.hidden-the_row-Node-0 node_block.hidden-the_row-Node-1 program_cells cells_at object_cells call_cells body_cells stmt_cells index_cells read_cells own_target steps_text var_text call_text loop_text simple bound called_frame kept read_kept all_passed called nodes all_nodes in_block body_nodes every led rows_cells expr_cells named_cells assign_cells node_cells stride_of cells_to lowered read_lowered fields_cells kept_rows read_target body_infos loops shown with_all places_at is_within in_scope param_spans
+unfolding lowered_program each_behind all_behind is_settled inner_cells is_starred is_constant constant_value fixed_index size refers some_refers cells_from indices_of read_indices all_kept frame_cells cells_in loops_in count_cells body_loops layout_of layout_with rows_around type_of links_type hidden-the_row-Step-0 hidden-the_row-Expr-1 hidden-the_row-Link-2 hidden-the_row-Expr-3 hidden-the_row-Stmt-0 hidden-the_row-Stmt-1 hidden-the_row-Group-2 denote.Hole.Carrier.hidden ir_block.hidden-the_row-Row-0 ir_block.hidden-the_row-IrExpr-1 ir_block.hidden-the_row-IrLink-2 node_block.hidden-the_row-Node-0 node_block.hidden-the_row-Node-1 program_cells cells_at object_cells call_cells body_cells stmt_cells index_cells read_cells own_target steps_text var_text call_text loop_text simple bound called_frame kept read_kept all_passed called nodes all_nodes in_block body_nodes every led rows_cells expr_cells named_cells assign_cells node_cells stride_of cells_to lowered read_lowered fields_cells kept_rows read_target body_infos loops shown with_all places_at is_within in_scope param_spans
 aliased_body = refl
 
 aliased_loops : (lowered_program aliased).loops ≡ record { name = [] ++ pos_text (at 3 3); shown = 0 ∷ 1 ∷ [] } ∷ []
-unfolding lowered_program inner_cells is_starred is_constant constant_value fixed_index size refers some_refers cells_from indices_of read_indices all_kept frame_cells cells_in loops_in count_cells body_loops layout_of layout_with rows_around type_of links_type hidden-the_row-Step-0 hidden-the_row-Expr-1 hidden-the_row-Link-2 hidden-the_row-Expr-3 hidden-the_row-Stmt-0 hidden-the_row-Stmt-1 hidden-the_row-Group-2 denote.Hole.Carrier.hidden ir_block.hidden-the_row-Row-0 ir_block.hidden-the_row-IrExpr-1 ir_block.hidden-the_row-IrLink-2 node_block.hidden-the_row-Node-0 node_block.hidden-the_row-Node-1 program_cells cells_at object_cells call_cells body_cells stmt_cells index_cells read_cells own_target steps_text var_text call_text loop_text simple bound called_frame kept read_kept all_passed called nodes all_nodes in_block body_nodes every led rows_cells expr_cells named_cells assign_cells node_cells stride_of cells_to lowered read_lowered fields_cells kept_rows read_target body_infos loops shown with_all places_at is_within in_scope param_spans
+unfolding lowered_program each_behind all_behind is_settled inner_cells is_starred is_constant constant_value fixed_index size refers some_refers cells_from indices_of read_indices all_kept frame_cells cells_in loops_in count_cells body_loops layout_of layout_with rows_around type_of links_type hidden-the_row-Step-0 hidden-the_row-Expr-1 hidden-the_row-Link-2 hidden-the_row-Expr-3 hidden-the_row-Stmt-0 hidden-the_row-Stmt-1 hidden-the_row-Group-2 denote.Hole.Carrier.hidden ir_block.hidden-the_row-Row-0 ir_block.hidden-the_row-IrExpr-1 ir_block.hidden-the_row-IrLink-2 node_block.hidden-the_row-Node-0 node_block.hidden-the_row-Node-1 program_cells cells_at object_cells call_cells body_cells stmt_cells index_cells read_cells own_target steps_text var_text call_text loop_text simple bound called_frame kept read_kept all_passed called nodes all_nodes in_block body_nodes every led rows_cells expr_cells named_cells assign_cells node_cells stride_of cells_to lowered read_lowered fields_cells kept_rows read_target body_infos loops shown with_all places_at is_within in_scope param_spans
 aliased_loops = refl
 
 -- ---- `void f(void) { static int n; n = n + 1; }`, called at two places: n is one cell, and isn't in scope at main's loop
@@ -125,17 +125,17 @@ abbrev counting : Program
 counting = program (variable (codes "n") (at 7 14) [] home.Static ∷ [])
     (turning (stmt.Call (at 4 5) 1 [] None ∷ stmt.Call (at 5 5) 1 [] None ∷ []) ∷ function (codes "f") [] None (stmt.Scope 0 ∷ count 0 ∷ []) ∷ [])
 
-counting_cells : (lowered_program counting).cells ≡ cell (codes "n" ++ (codes "@" ++ pos_text (at 7 14))) ∷ []
-unfolding lowered_program inner_cells is_starred is_constant constant_value fixed_index size refers some_refers cells_from indices_of read_indices all_kept frame_cells cells_in loops_in count_cells body_loops layout_of layout_with rows_around type_of links_type hidden-the_row-Step-0 hidden-the_row-Expr-1 hidden-the_row-Link-2 hidden-the_row-Expr-3 hidden-the_row-Stmt-0 hidden-the_row-Stmt-1 hidden-the_row-Group-2 denote.Hole.Carrier.hidden ir_block.hidden-the_row-Row-0 ir_block.hidden-the_row-IrExpr-1 ir_block.hidden-the_row-IrLink-2 node_block.hidden-the_row-Node-0 node_block.hidden-the_row-Node-1 program_cells cells_at object_cells call_cells body_cells stmt_cells index_cells read_cells own_target steps_text var_text call_text loop_text simple bound called_frame kept read_kept all_passed called nodes all_nodes in_block body_nodes every led rows_cells expr_cells named_cells assign_cells node_cells stride_of cells_to lowered read_lowered fields_cells kept_rows read_target body_infos loops shown with_all places_at is_within in_scope param_spans
+counting_cells : (lowered_program counting).cells ≡ cell ((codes "n" ++ (codes "@" ++ pos_text (at 7 14))) ++ []) ∷ []
+unfolding lowered_program each_behind all_behind is_settled inner_cells is_starred is_constant constant_value fixed_index size refers some_refers cells_from indices_of read_indices all_kept frame_cells cells_in loops_in count_cells body_loops layout_of layout_with rows_around type_of links_type hidden-the_row-Step-0 hidden-the_row-Expr-1 hidden-the_row-Link-2 hidden-the_row-Expr-3 hidden-the_row-Stmt-0 hidden-the_row-Stmt-1 hidden-the_row-Group-2 denote.Hole.Carrier.hidden ir_block.hidden-the_row-Row-0 ir_block.hidden-the_row-IrExpr-1 ir_block.hidden-the_row-IrLink-2 node_block.hidden-the_row-Node-0 node_block.hidden-the_row-Node-1 program_cells cells_at object_cells call_cells body_cells stmt_cells index_cells read_cells own_target steps_text var_text call_text loop_text simple bound called_frame kept read_kept all_passed called nodes all_nodes in_block body_nodes every led rows_cells expr_cells named_cells assign_cells node_cells stride_of cells_to lowered read_lowered fields_cells kept_rows read_target body_infos loops shown with_all places_at is_within in_scope param_spans
 counting_cells = refl
 
 counting_body : (lowered_program counting).body ≡
     node.Loop 0 kind.Clock None (node.Block (node.Block (counted (only 0) ∷ []) ∷ node.Block (counted (only 0) ∷ []) ∷ node.Wait ∷ [])) None ∷ []
-unfolding lowered_program inner_cells is_starred is_constant constant_value fixed_index size refers some_refers cells_from indices_of read_indices all_kept frame_cells cells_in loops_in count_cells body_loops layout_of layout_with rows_around type_of links_type hidden-the_row-Step-0 hidden-the_row-Expr-1 hidden-the_row-Link-2 hidden-the_row-Expr-3 hidden-the_row-Stmt-0 hidden-the_row-Stmt-1 hidden-the_row-Group-2 denote.Hole.Carrier.hidden ir_block.hidden-the_row-Row-0 ir_block.hidden-the_row-IrExpr-1 ir_block.hidden-the_row-IrLink-2 node_block.hidden-the_row-Node-0 node_block.hidden-the_row-Node-1 program_cells cells_at object_cells call_cells body_cells stmt_cells index_cells read_cells own_target steps_text var_text call_text loop_text simple bound called_frame kept read_kept all_passed called nodes all_nodes in_block body_nodes every led rows_cells expr_cells named_cells assign_cells node_cells stride_of cells_to lowered read_lowered fields_cells kept_rows read_target body_infos loops shown with_all places_at is_within in_scope param_spans
+unfolding lowered_program each_behind all_behind is_settled inner_cells is_starred is_constant constant_value fixed_index size refers some_refers cells_from indices_of read_indices all_kept frame_cells cells_in loops_in count_cells body_loops layout_of layout_with rows_around type_of links_type hidden-the_row-Step-0 hidden-the_row-Expr-1 hidden-the_row-Link-2 hidden-the_row-Expr-3 hidden-the_row-Stmt-0 hidden-the_row-Stmt-1 hidden-the_row-Group-2 denote.Hole.Carrier.hidden ir_block.hidden-the_row-Row-0 ir_block.hidden-the_row-IrExpr-1 ir_block.hidden-the_row-IrLink-2 node_block.hidden-the_row-Node-0 node_block.hidden-the_row-Node-1 program_cells cells_at object_cells call_cells body_cells stmt_cells index_cells read_cells own_target steps_text var_text call_text loop_text simple bound called_frame kept read_kept all_passed called nodes all_nodes in_block body_nodes every led rows_cells expr_cells named_cells assign_cells node_cells stride_of cells_to lowered read_lowered fields_cells kept_rows read_target body_infos loops shown with_all places_at is_within in_scope param_spans
 counting_body = refl
 
 counting_loops : (lowered_program counting).loops ≡ record { name = [] ++ pos_text (at 3 3); shown = [] } ∷ []
-unfolding lowered_program inner_cells is_starred is_constant constant_value fixed_index size refers some_refers cells_from indices_of read_indices all_kept frame_cells cells_in loops_in count_cells body_loops layout_of layout_with rows_around type_of links_type hidden-the_row-Step-0 hidden-the_row-Expr-1 hidden-the_row-Link-2 hidden-the_row-Expr-3 hidden-the_row-Stmt-0 hidden-the_row-Stmt-1 hidden-the_row-Group-2 denote.Hole.Carrier.hidden ir_block.hidden-the_row-Row-0 ir_block.hidden-the_row-IrExpr-1 ir_block.hidden-the_row-IrLink-2 node_block.hidden-the_row-Node-0 node_block.hidden-the_row-Node-1 program_cells cells_at object_cells call_cells body_cells stmt_cells index_cells read_cells own_target steps_text var_text call_text loop_text simple bound called_frame kept read_kept all_passed called nodes all_nodes in_block body_nodes every led rows_cells expr_cells named_cells assign_cells node_cells stride_of cells_to lowered read_lowered fields_cells kept_rows read_target body_infos loops shown with_all places_at is_within in_scope param_spans
+unfolding lowered_program each_behind all_behind is_settled inner_cells is_starred is_constant constant_value fixed_index size refers some_refers cells_from indices_of read_indices all_kept frame_cells cells_in loops_in count_cells body_loops layout_of layout_with rows_around type_of links_type hidden-the_row-Step-0 hidden-the_row-Expr-1 hidden-the_row-Link-2 hidden-the_row-Expr-3 hidden-the_row-Stmt-0 hidden-the_row-Stmt-1 hidden-the_row-Group-2 denote.Hole.Carrier.hidden ir_block.hidden-the_row-Row-0 ir_block.hidden-the_row-IrExpr-1 ir_block.hidden-the_row-IrLink-2 node_block.hidden-the_row-Node-0 node_block.hidden-the_row-Node-1 program_cells cells_at object_cells call_cells body_cells stmt_cells index_cells read_cells own_target steps_text var_text call_text loop_text simple bound called_frame kept read_kept all_passed called nodes all_nodes in_block body_nodes every led rows_cells expr_cells named_cells assign_cells node_cells stride_of cells_to lowered read_lowered fields_cells kept_rows read_target body_infos loops shown with_all places_at is_within in_scope param_spans
 counting_loops = refl
 
 -- ---- `void g(int k) { while (k) k = k + 1; }`, called at two places: k is a cell on each path, and so is the loop
@@ -150,19 +150,19 @@ path line = [] ++ (codes "g" ++ (codes "@" ++ (pos_text (at line 5) ++ codes "/"
 abbrev waits : ℕ → ℕ → Node
 waits loop k = node.Block (node.Loop loop kind.While (Some (ir.Read (only k) I32)) (node.Block (counted (only k) ∷ [])) None ∷ [])
 
-looping_cells : (lowered_program looping).cells ≡ cell (path 4 ++ (codes "k" ++ (codes "@" ++ pos_text (at 7 12)))) ∷ cell (path 5 ++ (codes "k" ++ (codes "@" ++ pos_text (at 7 12)))) ∷ []
-unfolding lowered_program inner_cells is_starred is_constant constant_value fixed_index size refers some_refers cells_from indices_of read_indices all_kept frame_cells cells_in loops_in count_cells body_loops layout_of layout_with rows_around type_of links_type hidden-the_row-Step-0 hidden-the_row-Expr-1 hidden-the_row-Link-2 hidden-the_row-Expr-3 hidden-the_row-Stmt-0 hidden-the_row-Stmt-1 hidden-the_row-Group-2 denote.Hole.Carrier.hidden ir_block.hidden-the_row-Row-0 ir_block.hidden-the_row-IrExpr-1 ir_block.hidden-the_row-IrLink-2 node_block.hidden-the_row-Node-0 node_block.hidden-the_row-Node-1 program_cells cells_at object_cells call_cells body_cells stmt_cells index_cells read_cells own_target steps_text var_text call_text loop_text simple bound called_frame kept read_kept all_passed called nodes all_nodes in_block body_nodes every led rows_cells expr_cells named_cells assign_cells node_cells stride_of cells_to lowered read_lowered fields_cells kept_rows read_target body_infos loops shown with_all places_at is_within in_scope param_spans
+looping_cells : (lowered_program looping).cells ≡ cell ((path 4 ++ (codes "k" ++ (codes "@" ++ pos_text (at 7 12)))) ++ []) ∷ cell ((path 5 ++ (codes "k" ++ (codes "@" ++ pos_text (at 7 12)))) ++ []) ∷ []
+unfolding lowered_program each_behind all_behind is_settled inner_cells is_starred is_constant constant_value fixed_index size refers some_refers cells_from indices_of read_indices all_kept frame_cells cells_in loops_in count_cells body_loops layout_of layout_with rows_around type_of links_type hidden-the_row-Step-0 hidden-the_row-Expr-1 hidden-the_row-Link-2 hidden-the_row-Expr-3 hidden-the_row-Stmt-0 hidden-the_row-Stmt-1 hidden-the_row-Group-2 denote.Hole.Carrier.hidden ir_block.hidden-the_row-Row-0 ir_block.hidden-the_row-IrExpr-1 ir_block.hidden-the_row-IrLink-2 node_block.hidden-the_row-Node-0 node_block.hidden-the_row-Node-1 program_cells cells_at object_cells call_cells body_cells stmt_cells index_cells read_cells own_target steps_text var_text call_text loop_text simple bound called_frame kept read_kept all_passed called nodes all_nodes in_block body_nodes every led rows_cells expr_cells named_cells assign_cells node_cells stride_of cells_to lowered read_lowered fields_cells kept_rows read_target body_infos loops shown with_all places_at is_within in_scope param_spans
 looping_cells = refl
 
 looping_body : (lowered_program looping).body ≡
     node.Loop 0 kind.Clock None (node.Block (node.Assign (assign.Value (only 0) I32 (at 4 6) (ir.Number 1 I32)) ∷ waits 1 0
     ∷ node.Assign (assign.Value (only 1) I32 (at 5 6) (ir.Number 2 I32)) ∷ waits 2 1 ∷ node.Wait ∷ [])) None ∷ []
-unfolding lowered_program inner_cells is_starred is_constant constant_value fixed_index size refers some_refers cells_from indices_of read_indices all_kept frame_cells cells_in loops_in count_cells body_loops layout_of layout_with rows_around type_of links_type hidden-the_row-Step-0 hidden-the_row-Expr-1 hidden-the_row-Link-2 hidden-the_row-Expr-3 hidden-the_row-Stmt-0 hidden-the_row-Stmt-1 hidden-the_row-Group-2 denote.Hole.Carrier.hidden ir_block.hidden-the_row-Row-0 ir_block.hidden-the_row-IrExpr-1 ir_block.hidden-the_row-IrLink-2 node_block.hidden-the_row-Node-0 node_block.hidden-the_row-Node-1 program_cells cells_at object_cells call_cells body_cells stmt_cells index_cells read_cells own_target steps_text var_text call_text loop_text simple bound called_frame kept read_kept all_passed called nodes all_nodes in_block body_nodes every led rows_cells expr_cells named_cells assign_cells node_cells stride_of cells_to lowered read_lowered fields_cells kept_rows read_target body_infos loops shown with_all places_at is_within in_scope param_spans
+unfolding lowered_program each_behind all_behind is_settled inner_cells is_starred is_constant constant_value fixed_index size refers some_refers cells_from indices_of read_indices all_kept frame_cells cells_in loops_in count_cells body_loops layout_of layout_with rows_around type_of links_type hidden-the_row-Step-0 hidden-the_row-Expr-1 hidden-the_row-Link-2 hidden-the_row-Expr-3 hidden-the_row-Stmt-0 hidden-the_row-Stmt-1 hidden-the_row-Group-2 denote.Hole.Carrier.hidden ir_block.hidden-the_row-Row-0 ir_block.hidden-the_row-IrExpr-1 ir_block.hidden-the_row-IrLink-2 node_block.hidden-the_row-Node-0 node_block.hidden-the_row-Node-1 program_cells cells_at object_cells call_cells body_cells stmt_cells index_cells read_cells own_target steps_text var_text call_text loop_text simple bound called_frame kept read_kept all_passed called nodes all_nodes in_block body_nodes every led rows_cells expr_cells named_cells assign_cells node_cells stride_of cells_to lowered read_lowered fields_cells kept_rows read_target body_infos loops shown with_all places_at is_within in_scope param_spans
 looping_body = refl
 
 looping_loops : (lowered_program looping).loops ≡
     record { name = [] ++ pos_text (at 3 3); shown = [] } ∷ record { name = path 4 ++ pos_text (at 7 17); shown = 0 ∷ [] } ∷ record { name = path 5 ++ pos_text (at 7 17); shown = 1 ∷ [] } ∷ []
-unfolding lowered_program inner_cells is_starred is_constant constant_value fixed_index size refers some_refers cells_from indices_of read_indices all_kept frame_cells cells_in loops_in count_cells body_loops layout_of layout_with rows_around type_of links_type hidden-the_row-Step-0 hidden-the_row-Expr-1 hidden-the_row-Link-2 hidden-the_row-Expr-3 hidden-the_row-Stmt-0 hidden-the_row-Stmt-1 hidden-the_row-Group-2 denote.Hole.Carrier.hidden ir_block.hidden-the_row-Row-0 ir_block.hidden-the_row-IrExpr-1 ir_block.hidden-the_row-IrLink-2 node_block.hidden-the_row-Node-0 node_block.hidden-the_row-Node-1 program_cells cells_at object_cells call_cells body_cells stmt_cells index_cells read_cells own_target steps_text var_text call_text loop_text simple bound called_frame kept read_kept all_passed called nodes all_nodes in_block body_nodes every led rows_cells expr_cells named_cells assign_cells node_cells stride_of cells_to lowered read_lowered fields_cells kept_rows read_target body_infos loops shown with_all places_at is_within in_scope param_spans
+unfolding lowered_program each_behind all_behind is_settled inner_cells is_starred is_constant constant_value fixed_index size refers some_refers cells_from indices_of read_indices all_kept frame_cells cells_in loops_in count_cells body_loops layout_of layout_with rows_around type_of links_type hidden-the_row-Step-0 hidden-the_row-Expr-1 hidden-the_row-Link-2 hidden-the_row-Expr-3 hidden-the_row-Stmt-0 hidden-the_row-Stmt-1 hidden-the_row-Group-2 denote.Hole.Carrier.hidden ir_block.hidden-the_row-Row-0 ir_block.hidden-the_row-IrExpr-1 ir_block.hidden-the_row-IrLink-2 node_block.hidden-the_row-Node-0 node_block.hidden-the_row-Node-1 program_cells cells_at object_cells call_cells body_cells stmt_cells index_cells read_cells own_target steps_text var_text call_text loop_text simple bound called_frame kept read_kept all_passed called nodes all_nodes in_block body_nodes every led rows_cells expr_cells named_cells assign_cells node_cells stride_of cells_to lowered read_lowered fields_cells kept_rows read_target body_infos loops shown with_all places_at is_within in_scope param_spans
 looping_loops = refl
 
 -- ---- `int a[3]; void g(int *p) { *p = *p + 1; } void f(int *q) { g(q); }`, and `f(&a[0])` in each turn: the index is kept once
@@ -176,11 +176,11 @@ kept_place = record { first = 0; rows = rows.Kept 3 3 1 ∷ [] }
 
 chained_body : (lowered_program chained).body ≡
     node.Loop 0 kind.Clock None (node.Block (node.Assign (assign.Keep 3 (at 4 9) 3 (ir.Number 0 I32)) ∷ node.Block (node.Block (counted kept_place ∷ []) ∷ []) ∷ node.Wait ∷ [])) None ∷ []
-unfolding lowered_program inner_cells is_starred is_constant constant_value fixed_index size refers some_refers cells_from indices_of read_indices all_kept frame_cells cells_in loops_in count_cells body_loops layout_of layout_with rows_around type_of links_type hidden-the_row-Step-0 hidden-the_row-Expr-1 hidden-the_row-Link-2 hidden-the_row-Expr-3 hidden-the_row-Stmt-0 hidden-the_row-Stmt-1 hidden-the_row-Group-2 denote.Hole.Carrier.hidden ir_block.hidden-the_row-Row-0 ir_block.hidden-the_row-IrExpr-1 ir_block.hidden-the_row-IrLink-2 node_block.hidden-the_row-Node-0 node_block.hidden-the_row-Node-1 program_cells cells_at object_cells call_cells body_cells stmt_cells index_cells read_cells own_target steps_text var_text call_text loop_text simple bound called_frame kept read_kept all_passed called nodes all_nodes in_block body_nodes every led rows_cells expr_cells named_cells assign_cells node_cells stride_of cells_to lowered read_lowered fields_cells kept_rows read_target body_infos loops shown with_all places_at is_within in_scope param_spans
+unfolding lowered_program each_behind all_behind is_settled inner_cells is_starred is_constant constant_value fixed_index size refers some_refers cells_from indices_of read_indices all_kept frame_cells cells_in loops_in count_cells body_loops layout_of layout_with rows_around type_of links_type hidden-the_row-Step-0 hidden-the_row-Expr-1 hidden-the_row-Link-2 hidden-the_row-Expr-3 hidden-the_row-Stmt-0 hidden-the_row-Stmt-1 hidden-the_row-Group-2 denote.Hole.Carrier.hidden ir_block.hidden-the_row-Row-0 ir_block.hidden-the_row-IrExpr-1 ir_block.hidden-the_row-IrLink-2 node_block.hidden-the_row-Node-0 node_block.hidden-the_row-Node-1 program_cells cells_at object_cells call_cells body_cells stmt_cells index_cells read_cells own_target steps_text var_text call_text loop_text simple bound called_frame kept read_kept all_passed called nodes all_nodes in_block body_nodes every led rows_cells expr_cells named_cells assign_cells node_cells stride_of cells_to lowered read_lowered fields_cells kept_rows read_target body_infos loops shown with_all places_at is_within in_scope param_spans
 chained_body = refl
 
 chained_loops : (lowered_program chained).loops ≡ record { name = [] ++ pos_text (at 3 3); shown = 0 ∷ 1 ∷ 2 ∷ [] } ∷ []
-unfolding lowered_program inner_cells is_starred is_constant constant_value fixed_index size refers some_refers cells_from indices_of read_indices all_kept frame_cells cells_in loops_in count_cells body_loops layout_of layout_with rows_around type_of links_type hidden-the_row-Step-0 hidden-the_row-Expr-1 hidden-the_row-Link-2 hidden-the_row-Expr-3 hidden-the_row-Stmt-0 hidden-the_row-Stmt-1 hidden-the_row-Group-2 denote.Hole.Carrier.hidden ir_block.hidden-the_row-Row-0 ir_block.hidden-the_row-IrExpr-1 ir_block.hidden-the_row-IrLink-2 node_block.hidden-the_row-Node-0 node_block.hidden-the_row-Node-1 program_cells cells_at object_cells call_cells body_cells stmt_cells index_cells read_cells own_target steps_text var_text call_text loop_text simple bound called_frame kept read_kept all_passed called nodes all_nodes in_block body_nodes every led rows_cells expr_cells named_cells assign_cells node_cells stride_of cells_to lowered read_lowered fields_cells kept_rows read_target body_infos loops shown with_all places_at is_within in_scope param_spans
+unfolding lowered_program each_behind all_behind is_settled inner_cells is_starred is_constant constant_value fixed_index size refers some_refers cells_from indices_of read_indices all_kept frame_cells cells_in loops_in count_cells body_loops layout_of layout_with rows_around type_of links_type hidden-the_row-Step-0 hidden-the_row-Expr-1 hidden-the_row-Link-2 hidden-the_row-Expr-3 hidden-the_row-Stmt-0 hidden-the_row-Stmt-1 hidden-the_row-Group-2 denote.Hole.Carrier.hidden ir_block.hidden-the_row-Row-0 ir_block.hidden-the_row-IrExpr-1 ir_block.hidden-the_row-IrLink-2 node_block.hidden-the_row-Node-0 node_block.hidden-the_row-Node-1 program_cells cells_at object_cells call_cells body_cells stmt_cells index_cells read_cells own_target steps_text var_text call_text loop_text simple bound called_frame kept read_kept all_passed called nodes all_nodes in_block body_nodes every led rows_cells expr_cells named_cells assign_cells node_cells stride_of cells_to lowered read_lowered fields_cells kept_rows read_target body_infos loops shown with_all places_at is_within in_scope param_spans
 chained_loops = refl
 
 -- ---- `for (int i = 0; i < 9; ) a[i] = i;`, the local declared before its loop: it is shown at it, and not at main's
@@ -189,5 +189,5 @@ stepping = program (variable (codes "a") (at 1 5) (2 ∷ []) home.Global ∷ var
     (turning (stmt.Block (stmt.Simple (Declare 1 (begins.Value (at 4 16) (number 0))) ∷ stmt.Loop (at 4 5) kind.While None (stmt.Simple (Assign (element 0 (at 4 30) 2 (value 1)) I32 (at 4 33) (value 1))) None ∷ []) ∷ []) ∷ [])
 
 stepping_loops : (lowered_program stepping).loops ≡ record { name = [] ++ pos_text (at 3 3); shown = 0 ∷ 1 ∷ [] } ∷ record { name = [] ++ pos_text (at 4 5); shown = 0 ∷ 1 ∷ 2 ∷ [] } ∷ []
-unfolding lowered_program inner_cells is_starred is_constant constant_value fixed_index size refers some_refers cells_from indices_of read_indices all_kept frame_cells cells_in loops_in count_cells body_loops layout_of layout_with rows_around type_of links_type hidden-the_row-Step-0 hidden-the_row-Expr-1 hidden-the_row-Link-2 hidden-the_row-Expr-3 hidden-the_row-Stmt-0 hidden-the_row-Stmt-1 hidden-the_row-Group-2 denote.Hole.Carrier.hidden ir_block.hidden-the_row-Row-0 ir_block.hidden-the_row-IrExpr-1 ir_block.hidden-the_row-IrLink-2 node_block.hidden-the_row-Node-0 node_block.hidden-the_row-Node-1 program_cells cells_at object_cells call_cells body_cells stmt_cells index_cells read_cells own_target steps_text var_text call_text loop_text simple bound called_frame kept read_kept all_passed called nodes all_nodes in_block body_nodes every led rows_cells expr_cells named_cells assign_cells node_cells stride_of cells_to lowered read_lowered fields_cells kept_rows read_target body_infos loops shown with_all places_at is_within in_scope param_spans
+unfolding lowered_program each_behind all_behind is_settled inner_cells is_starred is_constant constant_value fixed_index size refers some_refers cells_from indices_of read_indices all_kept frame_cells cells_in loops_in count_cells body_loops layout_of layout_with rows_around type_of links_type hidden-the_row-Step-0 hidden-the_row-Expr-1 hidden-the_row-Link-2 hidden-the_row-Expr-3 hidden-the_row-Stmt-0 hidden-the_row-Stmt-1 hidden-the_row-Group-2 denote.Hole.Carrier.hidden ir_block.hidden-the_row-Row-0 ir_block.hidden-the_row-IrExpr-1 ir_block.hidden-the_row-IrLink-2 node_block.hidden-the_row-Node-0 node_block.hidden-the_row-Node-1 program_cells cells_at object_cells call_cells body_cells stmt_cells index_cells read_cells own_target steps_text var_text call_text loop_text simple bound called_frame kept read_kept all_passed called nodes all_nodes in_block body_nodes every led rows_cells expr_cells named_cells assign_cells node_cells stride_of cells_to lowered read_lowered fields_cells kept_rows read_target body_infos loops shown with_all places_at is_within in_scope param_spans
 stepping_loops = refl
