@@ -15,4 +15,6 @@ pub mod InsideLemmas
 pub mod TableLemmas
 pub mod TypeLemmas
 pub mod CallLemmas
+pub mod PlaceLaws
+pub mod LowerLaws
 mod Samples

@@ -49,6 +49,9 @@ all_extents (d ∷ older) = all_extents older ++ extents_from 0 0 (layouts_with 
 abbrev pub no_array : Plain → Shape
 no_array x = record { dims = []; plain = x }
 
+abbrev pub shape_of : List ℕ → Plain → Shape
+shape_of dims x = record { dims = dims; plain = x }
+
 -- a shape among the first structures alone
 unfoldable pub among : List StructDef → ℕ → Shape → Layout
 among structs m s = layout_with (λ k. struct_layout (reverse (take m structs)) k) s

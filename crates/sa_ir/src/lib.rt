@@ -11,6 +11,7 @@ mod frame;
 mod ir;
 mod names;
 mod node;
+mod places;
 mod sizes;
 mod slots;
 mod table;

@@ -2,7 +2,7 @@
 
 ghost use Rattle.std.specs.Prelude.{ℕ, ◌≡◌, ◌+◌, ◌*◌, ◌<◌, length, reverse, IfOk};
 ghost use Rattle.sa_typed.specs.declared.shape.Plain.TheVariants.{Struct};
-ghost use Rattle.sa_ir.specs.Sizes.{cells_for, extent, extent_of, extents_from, all_extents, among, fields_of, no_array, Covers};
+ghost use Rattle.sa_ir.specs.Sizes.{cells_for, extent, extent_of, extents_from, all_extents, among, fields_of, no_array, shape_of, Covers};
 
 use crate::OutOfMemory;
 use sa_typed::{FieldDef, Plain, Program, Shape};
@@ -27,15 +27,28 @@ pub(crate) fn shape_extent(
     requires { Covers program.now.structs structs table.now }
     ensures { result ≡ extent_of (among program.now.structs structs shape.now) }
 {
+    dims_extent(program, table, structs, shape.dims.as_slice(), shape.plain)
+}
+
+/// How many cells and elements arrays of these dimensions have, around what may hold the first `structs` structures.
+pub(crate) fn dims_extent(
+    program: &Program,
+    table: &[Items<Extent>],
+    structs: usize,
+    dims: &[u32],
+    plain: Plain,
+) -> Extent
+    requires { Covers program.now.structs structs table.now }
+    ensures { result ≡ extent_of (among program.now.structs structs (shape_of dims.now plain)) }
+{
     let mut each = Extent {
         cells: 1,
         elements: 1,
     };
-    let dims = shape.dims.as_slice();
     for n in dims {
         each = several(each, *n);
     }
-    let one = plain_extent(program, table, structs, shape.plain);
+    let one = plain_extent(program, table, structs, plain);
     Extent {
         cells: each.cells.saturating_mul(one.cells),
         elements: each.elements.saturating_mul(one.elements),

@@ -1,6 +1,6 @@
 //! Where the cells of variables stand.
 
-ghost use Rattle.std.specs.Prelude.{◌≡◌, ◌<◌, ◌+◌, ◌&&◌, not, ℕ, if◌then◌else◌, length, get_or, replicate, reverse, slice_get, false, IfOk, OnOk, Some};
+ghost use Rattle.std.specs.Prelude.{◌≡◌, ◌<◌, ◌≤◌, ◌+◌, ◌&&◌, not, ℕ, if◌then◌else◌, length, get_or, replicate, reverse, slice_get, false, IfOk, OnOk, Some};
 ghost use Rattle.sa_typed.specs.Frames.{is_reference, same_home};
 ghost use Rattle.sa_typed.specs.declared.program.Home.{Home};
 ghost use Rattle.sa_ir.specs.Sizes.{all_extents};
@@ -156,7 +156,8 @@ impl Sections {
 
 /// A number as a `u32`. A list of more than those count is more than memory holds.
 pub(crate) fn number(n: usize) -> Result<u32, OutOfMemory>
-    ensures { IfOk result (λ r. r ≡ n) }
+    ensures value { IfOk result (λ r. r ≡ n) }
+    ensures few { OnOk result (n ≤ 4294967295) }
 {
     if n > 0xffff_ffff {
         return Err(AllocError);

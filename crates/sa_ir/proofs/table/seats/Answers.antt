@@ -21,13 +21,13 @@ add_var-requires-clause-reference c =
     let p = c.args.program.now in
     let n = c.len-var-end.ensures in
     let h = c.loop-var-test.true in
-    let k : c.in_ok-number.number ≡ c.loop-var.var = c.in_ok-number.ensures in
+    let k : c.in_ok-number.number ≡ c.loop-var.var = c.in_ok-number.ensures.value in
     ap (λ (l : List Bool). get_or l c.loop-var.var _) c.requires.references ∙ flag-is p c.loop-var.var _ (omega (arith, n, h)) ∙ ap (is_reference p) (sym k)
 
 pub loop-var-preserved : goal.loop-var-preserved
 loop-var-preserved c =
     let p = c.args.program.now in
-    let k : c.in_ok-number.number ≡ c.loop-var.var = c.in_ok-number.ensures in
+    let k : c.in_ok-number.number ≡ c.loop-var.var = c.in_ok-number.ensures.value in
     record {
       seats = seated-more p c.loop-var.var c.loop-var.seats.items c.push.new.self.items c.in_ok-seat.seat c.loop-var.invariant.seats c.in_ok-push.ensures.items (c.in_ok-seat.ensures.seat ∙ ap (seat_at p) k);
       sections = subst (λ (n : ℕ). AreSections p (n + 1) c.add_var.new.sections) k c.in_ok-seat.ensures.sections;
