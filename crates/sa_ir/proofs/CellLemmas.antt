@@ -12,4 +12,3 @@ pub length-taken : {X : Type 0} (xs : List X) (i : ℕ) → i < length xs → le
 length-taken xs zero h = refl
 length-taken [] (suc i) h = absurd (omega arith)
 length-taken (x ∷ xs) (suc i) h = ap suc (length-taken xs i (omega arith))
-

@@ -6,4 +6,3 @@ pub length-behind : (s : Step) (cs : List Inner) → length (all_behind s cs) �
 unfolding all_behind
 length-behind s [] = refl
 length-behind s (c ∷ cs) = ap suc (length-behind s cs)
-

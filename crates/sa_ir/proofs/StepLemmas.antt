@@ -75,4 +75,3 @@ pub past-end : {X : Type 0} (xs : List X) (i : ℕ) → slice_get xs i ≡ None 
 past-end [] i h = omega arith
 past-end (x ∷ xs) zero h = absurd cc
 past-end (x ∷ xs) (suc i) h = let r = past-end xs i h in omega (arith, r)
-

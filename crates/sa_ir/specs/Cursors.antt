@@ -3,6 +3,7 @@
 use Rattle.std.specs.Prelude.{ℕ, ◌+◌, ◌-◌, ◌≡◌, ◌≤◌, ◌==◌, slice_get, List, [], ◌∷◌, length, if◌then◌else◌, Option, Some, None}
 use Rattle.sa_typed.specs.Frames.{home_cells}
 use Rattle.sa_typed.specs.Layouts.{Layout, Layouts, no_field}
+use Rattle.sa_typed.specs.declared.expr.Step.{Step}
 use Rattle.sa_typed.specs.declared.program.Home.{Home}
 use Rattle.sa_typed.specs.declared.program.Home.TheVariants as home
 use Rattle.sa_typed.specs.declared.program.Program.{Program}
@@ -16,6 +17,7 @@ use Rattle.sa_ir.specs.declared.sizes.Extent.{Extent}
 use Rattle.sa_typed.specs.declared.shape.StructDef.{StructDef}
 use Rattle.sa_ir.specs.Frames.{Frame, own_target}
 use Rattle.sa_ir.specs.Sizes.{capped, among, shape_of, made_of}
+use Rattle.sa_ir.specs.Indices.{step_cells, step_layout}
 use Rattle.sa_ir.specs.Names.{at_field}
 use Rattle.sa_ir.specs.Places.{cells_to}
 
@@ -48,6 +50,11 @@ cursor_layout p c = among p.structs c.structs (shape_of c.dims.now c.plain)
 pub record IsCursor (p : Program) (l : Layout) (c : Cursor) : Type 0 where
   pub known : c.structs ≤ length p.structs
   pub layout : cursor_layout p c ≡ l
+
+-- a step of an access
+pub record IsStep (p : Program) (l : Layout) (t : Step) (s : Stepped) : Type 0 where
+  pub cells : s.cells ≡ capped (step_cells l t)
+  pub cursor : IsCursor p (step_layout l t) s.cursor
 
 -- a step to a field
 pub record IsStepped (p : Program) (l : Layout) (f : ℕ) (s : Stepped) : Type 0 where

@@ -8,8 +8,8 @@ pub mod Tables
 pub mod Frames
 pub mod Lists
 pub mod Places
-pub mod Cursors
 pub mod Indices
+pub mod Cursors
 pub mod Nodes
 pub mod Occurrences
 pub mod Shown

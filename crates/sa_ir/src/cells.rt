@@ -20,11 +20,7 @@ use sa_typed::{Arg, Expr, Home, Link, Program, Step};
 use std::alloc::{AllocError, Global};
 
 /// A cell that no report names.
-pub(crate) fn push_hidden(
-    alloc: Global,
-    num: Num,
-    cells: &mut Vec<Cell>,
-) -> Result<(), OutOfMemory>
+pub(crate) fn push_hidden(alloc: Global, num: Num, cells: &mut Vec<Cell>) -> Result<(), OutOfMemory>
     ensures { OnOk result (cells.new.items ≡ cells.old.items ++ hidden num ∷ []) }
 {
     let name = Text::of_bytes(alloc, &[])?;

@@ -9,6 +9,7 @@ mod cells;
 mod expr;
 mod frame;
 mod ir;
+mod lowering;
 mod names;
 mod node;
 mod places;

@@ -147,7 +147,14 @@ pub(crate) fn stride(program: &Program, table: &Table, at: Cursor<'_>) -> usize
             if *n > 128 {
                 0
             } else {
-                dims_extent(program, table.structs.as_slice(), at.structs, rest, at.plain).cells
+                dims_extent(
+                    program,
+                    table.structs.as_slice(),
+                    at.structs,
+                    rest,
+                    at.plain,
+                )
+                .cells
             }
         }
     }

@@ -16,7 +16,6 @@ pub(crate) struct Extent {
     pub(crate) elements: usize,
 }
 
-
 /// How many cells and elements a shape has, which may hold the first `structs` structures.
 pub(crate) fn shape_extent(
     program: &Program,
@@ -114,7 +113,10 @@ fn struct_extent(program: &Program, table: &[Items<Extent>], structs: usize, k: 
 }
 
 /// Of each structure what stands before each field, and in all.
-pub(crate) fn struct_table(alloc: Global, program: &Program) -> Result<Items<Items<Extent>>, OutOfMemory>
+pub(crate) fn struct_table(
+    alloc: Global,
+    program: &Program,
+) -> Result<Items<Items<Extent>>, OutOfMemory>
     ensures { IfOk result (λ r. r ≡ all_extents (reverse program.now.structs)) }
 {
     let structs = program.structs.as_slice();

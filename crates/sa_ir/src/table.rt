@@ -202,7 +202,12 @@ fn add_var(
     ensures sections { OnOk result (AreSections program.now (var + 1) sections.new) }
 {
     let known = &program.vars.as_slice()[var as usize];
-    let extent = shape_extent(program, structs.as_slice(), program.structs.len(), &known.shape);
+    let extent = shape_extent(
+        program,
+        structs.as_slice(),
+        program.structs.len(),
+        &known.shape,
+    );
     let offset = sections.cells(known.home);
     if !reference {
         add(alloc, sections, known.home, var, extent.cells)?;
