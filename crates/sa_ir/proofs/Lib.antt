@@ -17,4 +17,5 @@ pub mod TypeLemmas
 pub mod CallLemmas
 pub mod PlaceLaws
 pub mod LowerLaws
+pub mod SimpleLaws
 mod Samples

@@ -9,6 +9,8 @@ use Rattle.sa_typed.specs.declared.expr.Expr.{Expr, Number, Read', Input, Prefix
 use Rattle.sa_typed.specs.declared.expr.Link.{Link, out-Link}
 use Rattle.sa_typed.specs.declared.expr.Step.{Step, At', Field}
 use Rattle.sa_typed.specs.declared.program.Program.{Program}
+use Rattle.sa_ir.specs.declared.ir.Ends.{Ends}
+use Rattle.sa_ir.specs.declared.slots.Slot.{Slot}
 use Rattle.sa_ir.specs.declared.expr.IrLink.{IrLink}
 use Rattle.sa_ir.specs.declared.expr.Row.{Row}
 use Rattle.sa_ir.specs.declared.expr.Row.TheVariants as rows
@@ -71,3 +73,7 @@ list_cells l (s ∷ ss) = step_cells l s + list_cells (step_layout l s) ss
 unfoldable pub list_rows : Program → Frame → Layout → List Step → List Row
 list_rows p fr l [] = []
 list_rows p fr l (s ∷ ss) = step_rows p fr l s ++ list_rows p fr (step_layout l s) ss
+
+-- what a cell begins with
+abbrev pub slot_ends : Slot → Ends
+slot_ends s = record { lo = s.lo; hi = s.hi }

@@ -13,6 +13,7 @@ mod lowering;
 mod names;
 mod node;
 mod places;
+mod simple;
 mod sizes;
 mod slots;
 mod table;
