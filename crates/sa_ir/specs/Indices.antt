@@ -1,6 +1,7 @@
 -- What lowering asks of a typed program: that each constant index has a type, so that its value can be computed. And rows of a
 -- tree as lists, as code goes over them.
 use Rattle.std.specs.Prelude.{ℕ, ◌+◌, ◌≡◌, List, [], ◌∷◌, ◌++◌, map, true}
+use Rattle.std.specs.List.{All}
 use Rattle.sa_typed.specs.Constants.{is_constant}
 use Rattle.sa_typed.specs.Layouts.{Layout}
 use Rattle.sa_typed.specs.Links.{HasType}
@@ -9,6 +10,10 @@ use Rattle.sa_typed.specs.declared.expr.Expr.{Expr, Number, Read', Input, Prefix
 use Rattle.sa_typed.specs.declared.expr.Link.{Link, out-Link}
 use Rattle.sa_typed.specs.declared.expr.Step.{Step, At', Field}
 use Rattle.sa_typed.specs.declared.program.Program.{Program}
+use Rattle.sa_typed.specs.declared.stmt.Simple.{Simple}
+use Rattle.sa_typed.specs.declared.stmt.Simple.TheVariants.{Declare, Assign, Compound, Copy}
+use Rattle.sa_typed.specs.declared.stmt.Start.{Start}
+use Rattle.sa_typed.specs.declared.stmt.Start.TheVariants as begins
 use Rattle.sa_ir.specs.declared.ir.Ends.{Ends}
 use Rattle.sa_ir.specs.declared.slots.Slot.{Slot}
 use Rattle.sa_ir.specs.declared.expr.IrLink.{IrLink}
@@ -48,6 +53,20 @@ unfoldable mutual
 
 abbrev pub IsLinkTyped : Link → Type 0
 IsLinkTyped l = AreIndicesTyped (out-Link l).operand
+
+abbrev pub IsAccessTyped : Access → Type 0
+IsAccessTyped x = All IsStepTyped (out-Access x).steps
+
+abbrev pub IsStartTyped : Start → Type 0
+IsStartTyped begins.Any = Unit {0}
+IsStartTyped (begins.Value q a) = AreIndicesTyped a
+IsStartTyped begins.Items = Unit {0}
+
+abbrev pub IsSimpleTyped : Simple → Type 0
+IsSimpleTyped (Declare v s) = IsStartTyped s
+IsSimpleTyped (Assign x num q a) = IsAccessTyped x × AreIndicesTyped a
+IsSimpleTyped (Compound x num op q work a) = IsAccessTyped x × AreIndicesTyped a
+IsSimpleTyped (Copy k x q y) = IsAccessTyped x × IsAccessTyped y
 
 -- ---- lists
 abbrev pub link_lowered : Program → Frame → Link → IrLink

@@ -249,7 +249,7 @@ pub(crate) fn lower_place(
 }
 
 /// The rows of indices that were kept.
-fn kept_rows(alloc: Global, kept: &[Kept]) -> Result<Items<Row>, OutOfMemory>
+pub(crate) fn kept_rows(alloc: Global, kept: &[Kept]) -> Result<Items<Row>, OutOfMemory>
     ensures { IfOk result (λ r. r ≡ map kept_row kept.now) }
 {
     let mut rows = Items::new(alloc);

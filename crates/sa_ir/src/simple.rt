@@ -4,18 +4,25 @@ ghost use Rattle.std.specs.Prelude.{◌≡◌, map, reverse, slice_get, IfOk};
 ghost use Rattle.sa_typed.specs.Executions.{initial_of};
 ghost use Rattle.sa_typed.specs.Frames.{size};
 ghost use Rattle.sa_typed.specs.Layouts.{layout_of, num_in, struct_layout};
-ghost use Rattle.sa_ir.specs.Indices.{slot_ends};
+ghost use Rattle.sa_ir.specs.Indices.{IsStartTyped, IsSimpleTyped, slot_ends};
+ghost use Rattle.sa_ir.specs.Cursors.{frame_of};
+ghost use Rattle.sa_ir.specs.Nodes.{declared_as, simple};
 ghost use Rattle.sa_ir.specs.Initial.{object_ends};
 ghost use Rattle.sa_ir.specs.Sizes.{capped};
 ghost use Rattle.sa_ir.specs.Tables.{IsTable};
 
 use crate::OutOfMemory;
+use crate::expr::IrPlace;
+use crate::frame::Frame;
 use crate::ir::Ends;
+use crate::lowering::{kept_rows, lower_expr, lower_place};
+use crate::node::IrAssign;
+use crate::places::base;
 use crate::sizes::dims_extent;
 use crate::slots::{Slot, slots};
-use crate::table::Table;
+use crate::table::{Table, number};
 use sa_base::Num;
-use sa_typed::{Plain, Program};
+use sa_typed::{Plain, Program, Simple, Start};
 use sqlite_items::{Items, at};
 use std::alloc::Global;
 
@@ -105,4 +112,73 @@ pub(crate) fn object_ends(
     )?;
     let ends = all_ends(alloc, &slots)?;
     Ok(ends)
+}
+
+/// What a local begins with, in a call.
+fn lower_start(
+    alloc: Global,
+    program: &Program,
+    table: &Table,
+    frame: &Frame,
+    var: u32,
+    start: &Start,
+) -> Result<IrAssign, OutOfMemory>
+    requires table { IsTable program.now table.now }
+    requires typed { IsStartTyped start.now }
+    ensures { IfOk result (λ r. r ≡ declared_as program.now (frame_of program.now frame.now) var start.now) }
+{
+    let base = base(program, table, frame, var)?;
+    match start {
+        Start::Any => {
+            let count = number(whole_cells(program, table, var))?;
+            Ok(IrAssign::Any(base.first, count))
+        }
+        Start::Value(pos, value) => {
+            let rows = kept_rows(alloc, base.rows)?;
+            let value = lower_expr(alloc, program, table, frame, value)?;
+            let place = IrPlace {
+                first: base.first,
+                rows,
+            };
+            Ok(IrAssign::Value(place, num_of(program, var), *pos, value))
+        }
+        Start::Items => {
+            let ends = object_ends(alloc, program, table, var)?;
+            Ok(IrAssign::Items(base.first, ends))
+        }
+    }
+}
+
+/// A simple statement in a call.
+#[tactic(auto, unfolding(crate::specs::Nodes::simple))]
+pub(crate) fn lower_simple(
+    alloc: Global,
+    program: &Program,
+    table: &Table,
+    frame: &Frame,
+    stmt: &Simple,
+) -> Result<IrAssign, OutOfMemory>
+    requires table { IsTable program.now table.now }
+    requires typed { IsSimpleTyped stmt.now }
+    ensures { IfOk result (λ r. r ≡ simple program.now (frame_of program.now frame.now) stmt.now) }
+{
+    match stmt {
+        Simple::Declare(var, start) => lower_start(alloc, program, table, frame, *var, start),
+        Simple::Assign(left, num, pos, value) => {
+            let place = lower_place(alloc, program, table, frame, left)?;
+            let value = lower_expr(alloc, program, table, frame, value)?;
+            Ok(IrAssign::Value(place, *num, *pos, value))
+        }
+        Simple::Compound(left, num, op, pos, work, value) => {
+            let place = lower_place(alloc, program, table, frame, left)?;
+            let value = lower_expr(alloc, program, table, frame, value)?;
+            Ok(IrAssign::Compound(place, *num, *op, *pos, *work, value))
+        }
+        Simple::Copy(k, left, _, right) => {
+            let left = lower_place(alloc, program, table, frame, left)?;
+            let right = lower_place(alloc, program, table, frame, right)?;
+            let count = number(struct_cells(program, table, *k))?;
+            Ok(IrAssign::Copy(left, right, count))
+        }
+    }
 }
