@@ -1,13 +1,12 @@
 -- The cells of objects, of indices and of arguments, one after the other.
-use Rattle.std.proofs.Common.{◌≡◌, ℕ, zero, suc, ◌+◌, ◌<◌, ◌≤◌, List, [], ◌∷◌, ◌++◌, map, length, drop, take, get_or, refl, sym, ap, subst, ◌∙◌, arith, append-nil, append_assoc, length-append}
+use Rattle.std.proofs.Common.{◌≡◌, ℕ, zero, suc, ◌+◌, ◌<◌, ◌≤◌, List, [], ◌∷◌, ◌++◌, map, length, drop, take, get_or, refl, sym, ap, ◌∙◌, arith, append-nil, append_assoc}
 use Rattle.std.proofs.lemmas.List.{drop_more, drop_all, take_more, take_all}
-use Rattle.std.proofs.lemmas.Option.{slice_get_read}
 use Rattle.std.specs.List.{flat_map}
-use Rattle.std.specs.Prelude.{slice_get, pos, ℤ, Option, Some, None, true, false, if◌then◌else◌}
+use Rattle.std.specs.Prelude.{slice_get, Some, None, true, false, if◌then◌else◌}
 use Rattle.sa_base.specs.declared.num.Num.TheVariants.{I32}
 use Rattle.sa_typed.specs.Cells.{Inner, inner_cells, field_cells, is_starred}
 use Rattle.sa_typed.specs.Frames.{size, has_cells}
-use Rattle.sa_typed.specs.Layouts.{Layout, layout_of, shape_layout, struct_layout, layout_with, rows}
+use Rattle.sa_typed.specs.Layouts.{Layout, layout_of, shape_layout}
 use Rattle.sa_typed.specs.WellTyped.{type_of}
 use Rattle.sa_typed.specs.declared.expr.Expr.{Expr, Read', end_of-Expr, more_of-Expr, Row_of-Step, end_of-Step, more_of-Step, items-the_row-Step, items_hidden-the_row-Step-0}
 use Rattle.sa_typed.specs.declared.expr.Expr.TheVariants as v
@@ -19,12 +18,11 @@ use Rattle.sa_typed.specs.declared.program.Home.{Home}
 use Rattle.sa_typed.specs.declared.program.Program.{Program}
 use Rattle.sa_typed.specs.declared.program.Var.{Var}
 use Rattle.sa_typed.specs.declared.shape.Plain.{Plain}
-use Rattle.sa_typed.specs.declared.stmt.Arg.{Arg}
 use Rattle.sa_ir.specs.declared.ir.Cell.{Cell}
 use Rattle.sa_ir.specs.declared.names.Inside.{Inside}
 use Rattle.sa_ir.specs.declared.slots.Slot.{Slot}
 use Rattle.sa_ir.specs.declared.table.Section.{Section}
-use Rattle.sa_ir.specs.Frames.{cell_in, hidden, object_cells, cells_at, cells_of_home, index_cells, read_cells, arg_cells}
+use Rattle.sa_ir.specs.Frames.{cell_in, hidden, object_cells, cells_at, cells_of_home, index_cells, read_cells}
 use Rattle.sa_ir.specs.Initial.{initial_ends}
 use Rattle.sa_ir.specs.Lists.{cell_at, step_cells}
 use Rattle.sa_ir.specs.Names.{steps_text, var_text}

@@ -1,11 +1,11 @@
 -- Types with the same cells: a structure of one field with one element has those of its field.
-use Rattle.std.proofs.Common.{◌≡◌, ℕ, zero, suc, ◌+◌, ◌*◌, ◌<◌, ◌≤◌, ℤ, Bool, true, false, List, [], ◌∷◌, ◌++◌, length, get_or, refl, sym, ap, subst, ◌∙◌, inl, inr, append-nil, arith}
-use Rattle.std.specs.Prelude.{◌==◌, ◌&&◌, ◌||◌, nat_lt, slice_get, Option, Some, None}
-use Rattle.std.specs.List.{flat_map, list_all, list_any}
+use Rattle.std.proofs.Common.{◌≡◌, ℕ, zero, suc, ◌*◌, ◌<◌, ◌≤◌, ℤ, Bool, true, false, List, [], ◌∷◌, ◌++◌, length, get_or, refl, sym, ap, subst, ◌∙◌, inl, inr, append-nil, arith}
+use Rattle.std.specs.Prelude.{◌&&◌, ◌||◌, nat_lt, slice_get, Option, Some}
+use Rattle.std.specs.List.{list_all, list_any}
 use Rattle.std.proofs.lemmas.Bool.{cases_lt}
 use Rattle.std.proofs.lemmas.Bool.Decides.{nat_tests}
 use Rattle.std.proofs.lemmas.Option.{slice_get_within}
-use Rattle.sa_typed.specs.Layouts.{Layout, Layouts, leaf, row, fields, no_field, field, nums, rows, layout_with, layouts_with}
+use Rattle.sa_typed.specs.Layouts.{Layout, row, fields, no_field, field, nums, rows, layout_with, layouts_with}
 use Rattle.sa_typed.specs.declared.shape.Plain.{Plain}
 use Rattle.sa_typed.specs.declared.shape.Plain.TheVariants.{Scalar, Struct}
 use Rattle.sa_typed.specs.declared.shape.FieldDef.{FieldDef}
@@ -13,7 +13,6 @@ use Rattle.sa_typed.specs.declared.shape.StructDef.{StructDef}
 use Rattle.sa_base.specs.declared.num.Num.{Num}
 use Rattle.sa_ir.specs.declared.slots.Core.{Core}
 use Rattle.sa_ir.specs.declared.slots.Elements.{Elements}
-use Rattle.sa_ir.specs.declared.slots.Slot.{Slot}
 use Rattle.sa_ir.specs.Sizes.{among, no_array, made_of}
 use Rattle.sa_ir.specs.Slots.{slots_in, moved_on, apart, together, any_stops, fields_in}
 use Rattle.sa_ir.specs.Spots.{base_layout, work, works, IsKnown, starred_by, IsAlike, IsCore, StandFor, IsBase, is_single}

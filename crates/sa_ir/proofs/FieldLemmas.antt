@@ -1,21 +1,19 @@
 -- Fields that are still to be read, the last one first.
-use Rattle.std.proofs.Common.{◌≡◌, ℕ, zero, suc, ◌+◌, ◌-◌, ◌^◌, ◌<◌, ◌≤◌, ℤ, List, [], ◌∷◌, ◌++◌, length, get_or, drop, take, reverse, refl, sym, ap, subst, ◌∙◌, append_assoc, add-one, add-zero, zero-add, arith}
-use Rattle.std.specs.Prelude.{min, slice_get, option_map, Option, Some, None}
+use Rattle.std.proofs.Common.{◌≡◌, ℕ, zero, suc, ◌+◌, ◌-◌, ◌^◌, ◌<◌, ◌≤◌, ℤ, List, [], ◌++◌, length, get_or, drop, take, reverse, refl, sym, ap, ◌∙◌, add-one, zero-add, arith}
+use Rattle.std.specs.Prelude.{slice_get, option_map, Option, Some}
 use Rattle.std.proofs.lemmas.List.{drop_more, drop_all}
-use Rattle.std.proofs.lemmas.Option.{slice_get_within, slice_get-get_or, get_or_from_slice_get, slice_get_read}
+use Rattle.std.proofs.lemmas.Option.{slice_get_within, slice_get-get_or, get_or_from_slice_get}
 use Rattle.sa_typed.specs.Layouts.{Layout, Layouts, fields, no_field, field, nums, nth_field, before_field, layout_with, layouts_with, struct_layout}
 use Rattle.sa_typed.specs.declared.shape.Plain.TheVariants.{Struct}
-use Rattle.sa_typed.specs.declared.shape.Shape.{Shape}
 use Rattle.sa_typed.specs.declared.shape.FieldDef.{FieldDef}
 use Rattle.sa_typed.specs.declared.shape.StructDef.{StructDef}
 use Rattle.sa_ir.specs.declared.sizes.Extent.{Extent}
-use Rattle.sa_ir.specs.declared.slots.Slot.{Slot}
 use Rattle.sa_ir.specs.declared.slots.Elements.{Elements}
 use Rattle.sa_ir.specs.Sizes.{among, capped, cells_before, fields_of, made_of, extent, extents_from, Covers}
 use Rattle.sa_ir.specs.Slots.{slots_in, moved_on, fields_in}
 use Rattle.sa_ir.specs.Spots.{base_layout, work, works}
 use Rattle.sa_ir.proofs.SlotLaws.{slots-fields, moved-alike, capped-alike}
-use Rattle.sa_ir.proofs.StructLemmas.{among-struct, among-field, nth-field, extents-at, count-fields, fields_count}
+use Rattle.sa_ir.proofs.StructLemmas.{among-struct, nth-field, extents-at, count-fields}
 use Rattle.sa_ir.proofs.SizeLemmas.{length-extents-from}
 
 field-next : (ls : Layouts) (f : ℕ) (l : Layout) → nth_field ls f ≡ Some l → before_field ls (suc f) ≡ before_field ls f + length (nums l)

@@ -1,24 +1,14 @@
 -- What is fixed of a program, variable by variable and structure by structure.
-use Rattle.std.proofs.Common.{◌≡◌, ℕ, zero, suc, ◌+◌, ◌-◌, ◌^◌, ◌<◌, ◌≤◌, ℤ, pos, Bool, true, false, List, [], ◌∷◌, ◌++◌, length, get_or, drop, take, reverse, map, refl, sym, ap, subst, ◌∙◌, append_assoc, append-nil, add-one, add-zero, zero-add, length-append, arith}
-use Rattle.std.specs.Prelude.{if◌then◌else◌, min, slice_get, option_map, Option, Some, None}
-use Rattle.std.proofs.lemmas.List.{drop_more, drop_all, take_more, take_all, take-append-drop}
-use Rattle.std.proofs.lemmas.Option.{slice_get_within, get_or_from_slice_get, slice_get-get_or}
-use Rattle.sa_base.specs.declared.num.Num.{Num}
-use Rattle.sa_typed.specs.Layouts.{Layout, Layouts, no_field, field, nums, layout_with, layouts_with, struct_layout, layout_of, shape_layout}
-use Rattle.sa_typed.specs.Cells.{Cell, Inner, inner_cells, cells_of, cells_at, cells, is_global, is_static, is_local, is_starred}
-use Rattle.sa_typed.specs.declared.shape.Shape.{Shape}
+use Rattle.std.proofs.Common.{◌≡◌, ℕ, ◌+◌, ◌<◌, ◌≤◌, List, [], ◌∷◌, ◌++◌, length, get_or, drop, take, reverse, refl, sym, ap, ◌∙◌, append_assoc, arith}
+use Rattle.std.specs.Prelude.{slice_get}
+use Rattle.std.proofs.lemmas.List.{drop_more, drop_all, take_all}
+use Rattle.sa_typed.specs.Layouts.{Layouts, no_field, field, nums, layouts_with}
 use Rattle.sa_typed.specs.declared.shape.FieldDef.{FieldDef}
 use Rattle.sa_typed.specs.declared.shape.StructDef.{StructDef}
-use Rattle.sa_typed.specs.declared.program.Home.{Home}
-use Rattle.sa_typed.specs.declared.program.Home.TheVariants as home
-use Rattle.sa_typed.specs.declared.program.Var.{Var}
-use Rattle.sa_typed.specs.declared.program.Program.{Program}
 use Rattle.sa_ir.specs.declared.sizes.Extent.{Extent}
 use Rattle.sa_typed.specs.Frames.{size}
-use Rattle.sa_ir.specs.Sizes.{capped, extent, extent_of, extents_from, all_extents, among, fields_of, made_of, Covers}
-use Rattle.sa_ir.proofs.CellLemmas.{parted, length-taken}
-use Rattle.sa_ir.proofs.StructLemmas.{newest, older-length, extents-among}
-use Rattle.sa_ir.proofs.StepLemmas.{layout-known}
+use Rattle.sa_ir.specs.Sizes.{capped, extent, extent_of, extents_from, all_extents, among, fields_of, Covers}
+use Rattle.sa_ir.proofs.StructLemmas.{newest, extents-among}
 
 -- ---- extents
 pub extents-alike : (a b e f : ℕ) (ls : Layouts) → capped a ≡ capped b → capped e ≡ capped f → extents_from a e ls ≡ extents_from b f ls

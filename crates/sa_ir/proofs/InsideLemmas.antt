@@ -1,21 +1,19 @@
 -- One step further on the way to a cell: to an element, and to a field.
-use Rattle.std.proofs.Common.{◌≡◌, ℕ, zero, suc, ◌+◌, ◌-◌, ◌*◌, ◌/◌, ◌%◌, ◌^◌, ◌<◌, ◌≤◌, Bool, true, false, List, [], ◌∷◌, ◌++◌, length, get_or, take, reverse, refl, sym, ap, ap₂, ◌∙◌, inl, inr, append_assoc, add-one, length-append, arith, Option, Some}
+use Rattle.std.proofs.Common.{◌≡◌, ℕ, zero, suc, ◌+◌, ◌-◌, ◌*◌, ◌/◌, ◌%◌, ◌^◌, ◌<◌, ◌≤◌, Bool, true, false, List, [], ◌∷◌, ◌++◌, length, get_or, take, reverse, refl, sym, ap, ap₂, ◌∙◌, inl, inr, append_assoc, add-one, arith, Some}
 use Rattle.std.proofs.lemmas.Bool.{cases_lt}
 use Rattle.std.proofs.lemmas.Bool.Decides.{nat_tests}
-use Rattle.std.proofs.lemmas.List.{take_all}
 use Rattle.std.proofs.lemmas.Nat.{mod_below}
 use Rattle.std.proofs.lemmas.Option.{slice_get_within, slice_get_read, get_or_from_slice_get}
 use Rattle.std.specs.Fmt.{decimal}
 use Rattle.std.specs.Prelude.{if◌then◌else◌, nat_le, nat_lt, slice_get, codes, min}
-use Rattle.sa_typed.specs.Cells.{Inner, Cell, inner_cells, cells_of, cells, most_elements}
-use Rattle.sa_typed.specs.Layouts.{Layout, Layouts, row, fields, no_field, field, nth_field, before_field, nums, layouts_with, layout_with, struct_layout, rows, layout_of, var_layout}
+use Rattle.sa_typed.specs.Cells.{most_elements}
+use Rattle.sa_typed.specs.Layouts.{Layout, Layouts, row, fields, no_field, field, nth_field, before_field, nums, layouts_with, layout_with, struct_layout, rows}
 use Rattle.sa_typed.specs.declared.shape.FieldDef.{FieldDef}
 use Rattle.sa_typed.specs.declared.shape.Shape.{Shape}
 use Rattle.sa_typed.specs.declared.shape.Plain.{Plain}
 use Rattle.sa_typed.specs.declared.shape.Plain.TheVariants.{Scalar, Struct}
 use Rattle.sa_typed.specs.declared.shape.StructDef.{StructDef}
 use Rattle.sa_typed.specs.declared.program.Program.{Program}
-use Rattle.sa_typed.specs.declared.program.Var.{Var}
 use Rattle.sa_ir.specs.declared.sizes.Extent.{Extent}
 use Rattle.sa_typed.specs.Frames.{size}
 use Rattle.sa_ir.specs.Sizes.{sizes, cells_before, among, no_array, extent, extents_from, all_extents, made_of}

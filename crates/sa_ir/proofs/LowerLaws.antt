@@ -1,7 +1,7 @@
 -- Each form of an expression lowered, and what its parts owe, as code sees them.
-use Rattle.std.proofs.Common.{◌≡◌, ℕ, zero, suc, ◌+◌, ◌*◌, ◌<◌, ◌≤◌, Bool, true, false, List, [], ◌∷◌, ◌++◌, map, length, drop, get_or, refl, sym, ap, subst, ◌∙◌, arith, append-nil, append_assoc}
+use Rattle.std.proofs.Common.{◌≡◌, ℕ, ◌+◌, ◌*◌, ◌<◌, ◌≤◌, true, List, [], ◌∷◌, ◌++◌, map, length, drop, get_or, refl, sym, ap, subst, ◌∙◌, arith, append-nil, append_assoc}
 use Rattle.std.proofs.lemmas.List.{drop_more, drop_all}
-use Rattle.std.proofs.lemmas.List.Elements.{All-nil, All-cons, All-same, All-get_or}
+use Rattle.std.proofs.lemmas.List.Elements.{All-nil, All-cons}
 use Rattle.std.specs.List.{All}
 use Rattle.std.specs.Prelude.{Option, Some, None}
 use Rattle.sa_base.specs.declared.num.Num.{Num}
@@ -13,7 +13,7 @@ use Rattle.sa_typed.specs.Links.{HasType}
 use Rattle.sa_typed.specs.declared.expr.Access.{Access, out-Access}
 use Rattle.sa_typed.specs.declared.expr.Expr.{Expr, Read', Chain', And', Or', end_of-Expr, more_of-Expr, Row_of-Expr, items-the_row-Expr, items_hidden-the_row-Expr-3, Row_of-Link, end_of-Link, more_of-Link, items-the_row-Link, items_hidden-the_row-Link-2, Row_of-Step, end_of-Step, more_of-Step, items-the_row-Step, items_hidden-the_row-Step-0}
 use Rattle.sa_typed.specs.declared.expr.Expr.TheVariants as v
-use Rattle.sa_typed.specs.declared.expr.Link.{Link, out-Link}
+use Rattle.sa_typed.specs.declared.expr.Link.{Link}
 use Rattle.sa_typed.specs.declared.expr.Prefix.{Prefix}
 use Rattle.sa_typed.specs.declared.expr.Step.{Step, At', Field}
 use Rattle.sa_typed.specs.declared.expr.Step.TheVariants as step

@@ -6,10 +6,9 @@ use Rattle.std.proofs.lemmas.List.{get_or_append_left, get_or-append_right}
 use Rattle.std.proofs.lemmas.Nat.{div-add-mod', div-mul-add, mod-mul-add, mod_below}
 use Rattle.std.proofs.Math.Nat.{div-eq_of_lt, mod-eq_of_lt}
 use Rattle.std.specs.Fmt.{decimal}
-use Rattle.std.specs.Prelude.{if◌then◌else◌, nat_le, nat_lt, slice_get, codes}
+use Rattle.std.specs.Prelude.{if◌then◌else◌, nat_le, nat_lt, codes}
 use Rattle.sa_typed.specs.Cells.{Step, one, all, of, Inner, behind, inner_cells, field_cells, each_behind, all_behind, most_elements}
-use Rattle.sa_typed.specs.Layouts.{Layout, Layouts, leaf, row, fields, no_field, field, nth_field, or_nothing, layout_of}
-use Rattle.sa_typed.specs.declared.program.Program.{Program}
+use Rattle.sa_typed.specs.Layouts.{Layout, Layouts, leaf, row, fields, no_field, field, nth_field, or_nothing}
 use Rattle.sa_typed.specs.Frames.{size}
 use Rattle.sa_ir.proofs.ReachLemmas.{length-behind}
 use Rattle.sa_ir.proofs.StepLemmas.{size-small, size-large}

@@ -1,11 +1,11 @@
 -- What variables stand for in a call, and ways into objects.
 use Rattle.std.proofs.Common.{◌≡◌, ℕ, zero, suc, ◌+◌, ◌<◌, ◌≤◌, Bool, true, false, List, [], ◌∷◌, length, drop, get_or, refl, sym, ap, subst, ◌∙◌, arith, zero-add}
 use Rattle.std.proofs.lemmas.List.{drop_more, drop_all, take_all}
-use Rattle.std.specs.Prelude.{◌==◌, if◌then◌else◌, nat_le, slice_get, reverse, take, min, ◌^◌, ◌-◌, option_map, Option, Some, None}
+use Rattle.std.specs.Prelude.{◌==◌, if◌then◌else◌, nat_le, slice_get, reverse, take, ◌-◌, option_map, Option, Some, None}
 use Rattle.std.proofs.lemmas.Bool.Decides.{nat_tests}
 use Rattle.sa_typed.specs.Cells.{most_elements}
 use Rattle.sa_typed.specs.Frames.{size, home_cells, cells_from, offset_of}
-use Rattle.sa_typed.specs.Layouts.{Layout, Layouts, leaf, row, fields, no_field, field, nth_field, or_nothing, layouts_with, struct_layout, layout_with, rows, layout_of, shape_layout}
+use Rattle.sa_typed.specs.Layouts.{Layout, Layouts, leaf, row, fields, no_field, field, nth_field, or_nothing, layouts_with, struct_layout, layout_with, rows, layout_of}
 use Rattle.sa_typed.specs.declared.program.Home.{Home}
 use Rattle.sa_typed.specs.declared.program.Home.TheVariants as home
 use Rattle.sa_typed.specs.declared.program.Program.{Program}

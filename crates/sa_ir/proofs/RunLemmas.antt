@@ -1,12 +1,12 @@
 -- Elements as the loops make them.
-use Rattle.std.proofs.Common.{◌≡◌, ℕ, zero, suc, ◌+◌, ◌-◌, ◌*◌, ◌^◌, ◌<◌, ◌≤◌, Bool, true, false, ◌||◌, not, List, [], ◌∷◌, ◌++◌, length, get_or, drop, map, filter, refl, sym, ap, subst, ◌∙◌, inl, inr, append_assoc, append-nil, add-zero, zero-add, arith}
-use Rattle.std.specs.Prelude.{if◌then◌else◌, nat_lt, min}
+use Rattle.std.proofs.Common.{◌≡◌, ℕ, zero, suc, ◌+◌, ◌-◌, ◌*◌, ◌^◌, ◌<◌, ◌≤◌, Bool, true, false, ◌||◌, List, [], ◌∷◌, ◌++◌, length, get_or, drop, map, filter, refl, sym, ap, ◌∙◌, inl, inr, append_assoc, append-nil, arith}
+use Rattle.std.specs.Prelude.{nat_lt, min}
 use Rattle.std.specs.List.{flat_map}
 use Rattle.std.proofs.lemmas.Bool.{cases_lt}
 use Rattle.std.proofs.lemmas.Bool.Decides.{nat_tests}
 use Rattle.std.proofs.lemmas.List.{drop_more, drop_all}
 use Rattle.sa_ir.specs.declared.slots.Elements.{Elements}
-use Rattle.sa_ir.specs.Slots.{kept, any_past, moved_on, run, stops, any_stops, together, apart}
+use Rattle.sa_ir.specs.Slots.{kept, any_past, moved_on, run, stops, any_stops, apart}
 use Rattle.sa_ir.proofs.SlotLaws.{capped-alike, moved-alike, past-run}
 
 abbrev most : ℕ

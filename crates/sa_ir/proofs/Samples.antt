@@ -1,15 +1,13 @@
 -- Programs of a few lines, lowered: their cells, their statements and what their loops show.
-use Rattle.std.proofs.Common.{◌≡◌, ℕ, ℤ, pos, List, [], ◌∷◌, ◌++◌, refl, Option, None, Some, true, false}
-use Rattle.std.specs.Prelude.{codes, map, Bool}
+use Rattle.std.proofs.Common.{◌≡◌, ℕ, List, [], ◌∷◌, ◌++◌, refl, Option, None, Some, true, false}
+use Rattle.std.specs.Prelude.{codes}
 use Rattle.sa_base.specs.declared.num.Num.{Num}
 use Rattle.sa_base.specs.declared.num.Num.TheVariants.{I32}
 use Rattle.sa_base.specs.declared.pos.Pos.{Pos}
 use Rattle.sa_typed.specs.declared.expr.Access.{Access}
 use Rattle.sa_typed.specs.declared.expr.Expr.{Expr}
 use Rattle.sa_typed.specs.declared.expr.Expr.TheVariants as e
-use Rattle.sa_typed.specs.declared.expr.Operator.{Operator}
 use Rattle.sa_typed.specs.declared.expr.Operator.TheVariants as o
-use Rattle.sa_typed.specs.declared.expr.Step.{Step}
 use Rattle.sa_typed.specs.declared.expr.Step.TheVariants as step
 use Rattle.sa_typed.specs.declared.program.Func.{Func}
 use Rattle.sa_typed.specs.declared.program.Home.{Home}
@@ -18,17 +16,13 @@ use Rattle.sa_typed.specs.declared.program.Param.{Param}
 use Rattle.sa_typed.specs.declared.program.Program.{Program}
 use Rattle.sa_typed.specs.declared.program.Var.{Var}
 use Rattle.sa_typed.specs.declared.shape.Plain.TheVariants as plain
-use Rattle.sa_typed.specs.declared.stmt.Arg.{Arg}
 use Rattle.sa_typed.specs.declared.stmt.Arg.TheVariants.{Value as ByValue, Object as ByReference}
-use Rattle.sa_typed.specs.declared.stmt.Destination.{Destination}
 use Rattle.sa_typed.specs.declared.stmt.LoopKind.TheVariants as kind
 use Rattle.sa_typed.specs.declared.stmt.Simple.TheVariants.{Declare, Assign}
 use Rattle.sa_typed.specs.declared.stmt.Start.TheVariants as begins
 use Rattle.sa_typed.specs.declared.stmt.Stmt.{Stmt}
 use Rattle.sa_typed.specs.declared.stmt.Stmt.TheVariants as stmt
 use Rattle.sa_ir.specs.declared.ir.Cell.{Cell}
-use Rattle.sa_ir.specs.declared.ir.LoopInfo.{LoopInfo}
-use Rattle.sa_ir.specs.declared.expr.IrExpr.{IrExpr}
 use Rattle.sa_ir.specs.declared.expr.IrExpr.TheVariants as ir
 use Rattle.sa_ir.specs.declared.expr.IrPlace.{IrPlace}
 use Rattle.sa_ir.specs.declared.expr.Row.TheVariants as rows

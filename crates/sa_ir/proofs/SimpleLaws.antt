@@ -1,16 +1,15 @@
 -- Sizes, types and initial values of variables.
-use Rattle.std.proofs.Common.{◌≡◌, ℕ, zero, suc, ◌+◌, ◌<◌, ◌≤◌, List, [], ◌∷◌, map, length, take, drop, get_or, reverse, refl, sym, ap, ◌∙◌, arith}
+use Rattle.std.proofs.Common.{◌≡◌, ℕ, ◌≤◌, List, [], ◌∷◌, map, length, take, reverse, refl, sym, ap, ◌∙◌, arith}
 use Rattle.std.proofs.lemmas.List.{take_all}
-use Rattle.std.specs.Prelude.{slice_get, option_map, Option, Some, None, ℤ, ◌-◌, ◌==◌, Bool, true, false, if◌then◌else◌}
+use Rattle.std.specs.Prelude.{slice_get, option_map, Option, Some, None, ℤ, ◌==◌, true, false, if◌then◌else◌}
 use Rattle.sa_base.specs.declared.num.Num.{Num}
 use Rattle.sa_base.specs.declared.num.Num.TheVariants.{I32}
 use Rattle.sa_typed.specs.Cells.{Inner, inner_cells, field_cells, is_starred}
 use Rattle.sa_typed.specs.Executions.{initial_of}
 use Rattle.sa_typed.specs.Frames.{size}
-use Rattle.sa_typed.specs.Layouts.{Layout, leaf, row, fields, no_field, layout_of, num_in, struct_layout, shape_layout, layout_with, layouts_with, rows}
+use Rattle.sa_typed.specs.Layouts.{Layout, fields, layout_of, num_in, struct_layout, shape_layout, layout_with, layouts_with, rows}
 use Rattle.sa_typed.specs.declared.program.Program.{Program}
 use Rattle.sa_typed.specs.declared.program.Var.{Var}
-use Rattle.sa_typed.specs.declared.shape.Plain.{Plain}
 use Rattle.sa_typed.specs.declared.shape.Plain.TheVariants.{Scalar, Struct}
 use Rattle.sa_typed.specs.declared.shape.StructDef.{StructDef}
 use Rattle.sa_ir.specs.declared.ir.Ends.{Ends}

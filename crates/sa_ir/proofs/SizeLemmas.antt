@@ -1,10 +1,10 @@
 -- How many cells and elements there are, in numbers of a machine word.
-use Rattle.std.proofs.Common.{◌≡◌, ℕ, zero, suc, ◌+◌, ◌-◌, ◌*◌, ◌^◌, ◌<◌, ◌≤◌, true, false, List, [], ◌∷◌, length, reverse, take, drop, get_or, refl, sym, ap, subst, ◌∙◌, inl, inr, length-append, add-zero, zero-add, arith}
-use Rattle.std.specs.Prelude.{min, nat_le, slice_get, Option, Some, None}
+use Rattle.std.proofs.Common.{◌≡◌, ℕ, zero, suc, ◌+◌, ◌-◌, ◌*◌, ◌^◌, ◌<◌, ◌≤◌, true, false, List, length, drop, get_or, refl, sym, ap, ◌∙◌, inl, inr, length-append, zero-add, arith}
+use Rattle.std.specs.Prelude.{min, nat_le, slice_get, Some, None}
 use Rattle.std.proofs.lemmas.List.{drop_more, drop_all}
 use Rattle.std.proofs.lemmas.Bool.{cases_lt}
 use Rattle.std.proofs.lemmas.Bool.Decides.{nat_tests}
-use Rattle.sa_typed.specs.Layouts.{Layout, Layouts, leaf, row, fields, no_field, field, nums, all_nums, nth_field, before_field, layout_with, rows}
+use Rattle.sa_typed.specs.Layouts.{Layout, Layouts, row, fields, no_field, field, nums, all_nums, before_field, layout_with, rows}
 use Rattle.sa_typed.specs.Cells.{inner_cells, field_cells, most_elements}
 use Rattle.sa_typed.specs.declared.shape.Plain.{Plain}
 use Rattle.sa_typed.specs.declared.shape.Plain.TheVariants.{Scalar, Struct}
@@ -12,7 +12,7 @@ use Rattle.sa_typed.specs.declared.shape.Shape.{Shape}
 use Rattle.sa_typed.specs.declared.shape.StructDef.{StructDef}
 use Rattle.sa_ir.specs.declared.sizes.Extent.{Extent}
 use Rattle.sa_typed.specs.Frames.{size}
-use Rattle.sa_ir.specs.Sizes.{sizes, cells_before, cells_for, extent, extent_of, extents_from, all_extents, among, no_array, made_of, Covers}
+use Rattle.sa_ir.specs.Sizes.{sizes, cells_before, cells_for, extent, extent_of, extents_from, among, no_array, made_of, Covers}
 use Rattle.sa_ir.proofs.StructLemmas.{among-none, among-struct, extents-at, fields_count}
 use Rattle.sa_ir.proofs.StepLemmas.{here, size-small, size-large, size-of-fields}
 use Rattle.sa_ir.proofs.SlotLaws.{length-times}

@@ -1,32 +1,29 @@
 -- Objects that are still to be read.
-use Rattle.std.proofs.Common.{◌≡◌, ℕ, zero, suc, ◌+◌, ◌-◌, ◌*◌, ◌^◌, ◌<◌, ◌≤◌, ℤ, pos, Bool, true, false, ◌||◌, List, [], ◌∷◌, ◌++◌, length, get_or, drop, take, reverse, map, refl, sym, ap, subst, ◌∙◌, inl, inr, append_assoc, append-nil, add-one, add-zero, zero-add, length-append, arith}
-use Rattle.std.specs.Prelude.{◌==◌, if◌then◌else◌, nat_lt, nat_le, min, slice_get, Option, Some, None, Result, Ok, Err, IfOk}
+use Rattle.std.proofs.Common.{◌≡◌, ℕ, zero, suc, ◌+◌, ◌-◌, ◌*◌, ◌^◌, ◌<◌, ◌≤◌, ℤ, pos, Bool, true, false, List, [], ◌∷◌, ◌++◌, length, get_or, drop, take, map, refl, sym, ap, ◌∙◌, append_assoc, append-nil, length-append, arith}
+use Rattle.std.specs.Prelude.{if◌then◌else◌, nat_le, min, Option, Some, None, Result, Ok, Err, IfOk}
 use Rattle.std.specs.List.{flat_map}
-use Rattle.std.proofs.lemmas.Bool.{cases_lt}
 use Rattle.std.proofs.lemmas.Bool.Decides.{nat_tests}
 use Rattle.std.proofs.lemmas.List.{drop_more, drop_all, take_more, length-map}
 use Rattle.std.proofs.lemmas.Grind.{flat_map-append}
 use Rattle.sa_ir.specs.declared.ir.Ends.{Ends}
 use Rattle.sa_ir.specs.Initial.{single, join_some}
 use Rattle.sa_base.specs.declared.num.Num.{Num}
-use Rattle.sa_typed.specs.Layouts.{Layout, Layouts, leaf, row, fields, no_field, field, nums, all_nums, nth_field, before_field, layout_with, layouts_with, struct_layout, rows}
+use Rattle.sa_typed.specs.Layouts.{Layout, leaf, row, nums, all_nums, rows}
 use Rattle.sa_typed.specs.Cells.{Inner, inner_cells, is_starred, most_elements}
 use Rattle.sa_typed.specs.declared.shape.Plain.{Plain}
 use Rattle.sa_typed.specs.declared.shape.Plain.TheVariants.{Scalar, Struct}
-use Rattle.sa_typed.specs.declared.shape.FieldDef.{FieldDef}
 use Rattle.sa_typed.specs.declared.shape.StructDef.{StructDef}
 use Rattle.sa_ir.specs.Initial.{initial_ends}
-use Rattle.sa_ir.specs.declared.sizes.Extent.{Extent}
 use Rattle.sa_ir.specs.declared.slots.Row.{Row}
 use Rattle.sa_ir.specs.declared.slots.Spot.{Spot}
 use Rattle.sa_ir.specs.declared.slots.Slot.{Slot}
 use Rattle.sa_ir.specs.declared.slots.Elements.{Elements}
-use Rattle.sa_ir.specs.Sizes.{among, no_array, capped, made_of, extent, extents_from, Covers}
-use Rattle.sa_ir.specs.Slots.{spread, values_of, or_zero, slot, slot_of, slots_in, moved_on, together, apart, fields_in}
-use Rattle.sa_ir.specs.Spots.{all_slots, base_layout, IsKnown, AreKnown, spot_slots, left, work, works, weight, wound, HasWidths, IsNothing, IsSpotOf, first_element}
+use Rattle.sa_ir.specs.Sizes.{among, no_array, capped}
+use Rattle.sa_ir.specs.Slots.{spread, values_of, slot, slot_of, slots_in, together, apart}
+use Rattle.sa_ir.specs.Spots.{all_slots, base_layout, IsKnown, AreKnown, spot_slots, left, work, weight, wound, HasWidths, IsNothing, IsSpotOf, first_element}
 use Rattle.sa_ir.proofs.SpreadLaws.{zeros}
-use Rattle.sa_ir.proofs.SlotLaws.{slots-leaf, slots-apart, slots-one, slots-together, slots-fields, no-slots, length-times, apart-capped, together-capped, moved-alike, capped-alike}
-use Rattle.sa_ir.proofs.StructLemmas.{among-struct, among-none, among-field}
+use Rattle.sa_ir.proofs.SlotLaws.{slots-apart, slots-one, slots-together, no-slots, length-times, apart-capped, together-capped}
+use Rattle.sa_ir.proofs.StructLemmas.{among-struct, among-none}
 use Rattle.sa_ir.proofs.StepLemmas.{here}
 use Rattle.sa_ir.proofs.SizeLemmas.{capped-left}
 

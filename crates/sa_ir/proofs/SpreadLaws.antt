@@ -1,7 +1,6 @@
 -- What cells begin with, by the numbers of the elements that they stand for.
-use Rattle.std.proofs.Common.{◌≡◌, ℕ, zero, suc, ◌+◌, ◌-◌, ◌*◌, ◌<◌, ◌≤◌, ℤ, pos, Bool, true, false, ◌||◌, not, List, [], ◌∷◌, ◌++◌, length, get_or, map, refl, sym, ap, subst, ◌∙◌, inl, inr, append_assoc, append-nil, add-zero, zero-add, arith}
-use Rattle.std.specs.Prelude.{if◌then◌else◌, nat_lt, Option, Some, None}
-use Rattle.std.specs.Int.{int_min, int_max}
+use Rattle.std.proofs.Common.{◌≡◌, ℕ, zero, suc, ◌+◌, ◌-◌, ◌*◌, ◌≤◌, ℤ, pos, Bool, true, false, ◌||◌, List, [], ◌∷◌, ◌++◌, length, refl, ap, ◌∙◌, inl, inr, arith}
+use Rattle.std.specs.Prelude.{nat_lt, Option, Some, None}
 use Rattle.std.specs.List.{flat_map}
 use Rattle.std.proofs.lemmas.Bool.{cases_lt}
 use Rattle.std.proofs.lemmas.Bool.Decides.{nat_tests}
@@ -9,7 +8,7 @@ use Rattle.std.proofs.lemmas.Int.{ints, clamps}
 use Rattle.std.proofs.lemmas.List.{get_or_past}
 use Rattle.sa_ir.specs.declared.ir.Ends.{Ends}
 use Rattle.sa_ir.specs.Initial.{single, join_of, join_some}
-use Rattle.sa_typed.specs.Layouts.{Layout, Layouts, leaf, row, fields, nums, nth_field, before_field, or_nothing}
+use Rattle.sa_typed.specs.Layouts.{Layout, leaf, row, fields, nums, nth_field, before_field, or_nothing}
 use Rattle.sa_typed.specs.Cells.{Step, one, all, of}
 use Rattle.sa_ir.specs.Initial.{joined_from, initial_ends}
 use Rattle.sa_ir.specs.Slots.{spread, kept, any_past, run, stops, any_stops}

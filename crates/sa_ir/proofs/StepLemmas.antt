@@ -1,26 +1,19 @@
 -- One step of an access: to elements, and to a field.
-use Rattle.std.proofs.Common.{◌≡◌, ℕ, zero, suc, ◌+◌, ◌-◌, ◌*◌, ◌/◌, ◌<◌, ◌≤◌, Bool, true, false, cond, List, [], ◌∷◌, ◌++◌, length, map, take, drop, reverse, refl, sym, ap, subst, ◌∙◌, inl, inr, append_assoc, append-nil, add-one, add-zero, zero-add, length-append, arith}
-use Rattle.std.specs.Prelude.{◌==◌, if◌then◌else◌, nat_le, Option, Some, None, slice_get, option_map, min, ◌^◌}
-use Rattle.std.specs.List.{flat_map, All}
-use Rattle.std.proofs.lemmas.List.Elements.{All-nil, All-cons}
+use Rattle.std.proofs.Common.{◌≡◌, ℕ, zero, suc, ◌+◌, ◌*◌, ◌/◌, ◌<◌, ◌≤◌, true, false, List, [], ◌∷◌, length, refl, sym, ◌∙◌, length-append, arith}
+use Rattle.std.specs.Prelude.{nat_le, Option, Some, None, slice_get}
 use Rattle.std.proofs.lemmas.Bool.Decides.{nat_tests}
-use Rattle.std.proofs.lemmas.List.{take_all, drop_all}
-use Rattle.std.proofs.lemmas.Option.{slice_get_within, slice_get_past}
+use Rattle.std.proofs.lemmas.List.{take_all}
 use Rattle.std.proofs.Math.Nat.{mul-div_cancel_left}
-use Rattle.sa_typed.specs.Layouts.{Layout, Layouts, leaf, row, fields, no_field, field, nth_field, before_field, or_nothing, struct_layout, layout_with, layouts_with, rows, layout_of, shape_layout}
-use Rattle.sa_typed.specs.Cells.{Inner, inner_cells, field_cells, each_behind, all_behind, one, all, most_elements, cells, cells_of}
-use Rattle.sa_base.specs.declared.num.Num.{Num}
-use Rattle.sa_typed.specs.declared.shape.Plain.{Plain}
-use Rattle.sa_typed.specs.declared.shape.Plain.TheVariants.{Scalar, Struct}
+use Rattle.sa_typed.specs.Layouts.{Layout, Layouts, row, fields, layout_of, shape_layout}
+use Rattle.sa_typed.specs.Cells.{Inner, inner_cells, each_behind, all_behind, one, all, most_elements}
 use Rattle.sa_typed.specs.declared.shape.Shape.{Shape}
 use Rattle.sa_typed.specs.declared.shape.StructDef.{StructDef}
-use Rattle.sa_typed.specs.declared.shape.FieldDef.{FieldDef}
 use Rattle.sa_typed.specs.declared.program.Var.{Var}
 use Rattle.sa_typed.specs.declared.program.Program.{Program}
 use Rattle.sa_typed.specs.Frames.{size}
-use Rattle.sa_ir.specs.Sizes.{sizes, cells_before, among, no_array, extent, extents_from, all_extents, made_of}
+use Rattle.sa_ir.specs.Sizes.{sizes, among}
 use Rattle.sa_ir.proofs.ReachLemmas.{length-behind}
-use Rattle.sa_ir.proofs.StructLemmas.{size-fields, before-next, before-most, among-struct, among-none, among-field, nth-field, extents-of, extents-at, fields_count, count-fields}
+use Rattle.sa_ir.proofs.StructLemmas.{size-fields}
 
 -- ---- sizes
 length-each : (n k : ℕ) (cs : List Inner) → length (each_behind n k cs) ≡ n * length cs

@@ -1,15 +1,14 @@
 -- Structures by their numbers: what each is made of, and where its fields stand.
-use Rattle.std.proofs.Common.{◌≡◌, ℕ, zero, suc, ◌+◌, ◌-◌, ◌<◌, ◌≤◌, Bool, true, false, List, [], ◌∷◌, ◌++◌, length, take, drop, reverse, get_or, refl, sym, ap, subst, ◌∙◌, append_assoc, append-nil, add-one, add-zero, zero-add, length-append, arith}
-use Rattle.std.specs.Prelude.{◌==◌, if◌then◌else◌, Option, Some, None, slice_get, option_map}
+use Rattle.std.proofs.Common.{◌≡◌, ℕ, zero, suc, ◌+◌, ◌<◌, ◌≤◌, Bool, true, false, List, [], ◌∷◌, ◌++◌, length, take, reverse, get_or, refl, sym, ap, ◌∙◌, add-one, add-zero, length-append, arith}
+use Rattle.std.specs.Prelude.{◌==◌, if◌then◌else◌, Option, Some, slice_get, option_map}
 use Rattle.std.proofs.lemmas.Bool.Decides.{nat_tests}
 use Rattle.std.proofs.lemmas.List.{take_more, take_all, reverse-append, length-reverse, length-take-le}
 use Rattle.std.proofs.lemmas.Option.{slice_get_within, get_or_from_slice_get}
-use Rattle.sa_typed.specs.Layouts.{Layout, Layouts, leaf, row, fields, no_field, field, nums, nth_field, before_field, layout_with, layouts_with, struct_layout, rows}
+use Rattle.sa_typed.specs.Layouts.{Layout, Layouts, fields, no_field, field, nums, nth_field, before_field, layout_with, layouts_with, struct_layout, rows}
 use Rattle.sa_typed.specs.Cells.{inner_cells, field_cells, all_behind, of}
 use Rattle.sa_typed.specs.declared.shape.FieldDef.{FieldDef}
 use Rattle.sa_typed.specs.declared.shape.StructDef.{StructDef}
 use Rattle.sa_typed.specs.declared.shape.Plain.TheVariants.{Struct}
-use Rattle.sa_typed.specs.declared.shape.Shape.{Shape}
 use Rattle.sa_ir.specs.declared.sizes.Extent.{Extent}
 use Rattle.sa_typed.specs.Frames.{size}
 use Rattle.sa_ir.specs.Sizes.{sizes, cells_before, extent, extents_from, all_extents, among, no_array, made_of}

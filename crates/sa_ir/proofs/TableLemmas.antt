@@ -1,8 +1,8 @@
 -- References and sections, variable by variable.
-use Rattle.std.proofs.Common.{◌≡◌, ℕ, zero, suc, ◌+◌, ◌-◌, ◌<◌, ◌≤◌, Bool, true, false, ◌&&◌, not, List, [], ◌∷◌, ◌++◌, length, drop, take, get_or, refl, sym, ap, ◌∙◌, arith, subst, ◌≢◌, add-zero, zero-add, append-nil, length-append}
-use Rattle.std.proofs.lemmas.List.{drop_more, drop_all, take_more, take_all, length-set, get_or-set_same, get_or-set_other}
+use Rattle.std.proofs.Common.{◌≡◌, ℕ, zero, suc, ◌+◌, ◌<◌, ◌≤◌, Bool, true, false, ◌&&◌, not, List, [], ◌∷◌, ◌++◌, length, drop, take, get_or, refl, sym, ap, ◌∙◌, arith, subst, ◌≢◌, add-zero, zero-add, append-nil, length-append}
+use Rattle.std.proofs.lemmas.List.{drop_more, drop_all, take_more, length-set, get_or-set_same, get_or-set_other}
 use Rattle.std.proofs.lemmas.Bool.Decides.{nat_tests}
-use Rattle.std.proofs.lemmas.Option.{slice_get_within, get_or_from_slice_get, slice_get_read, slice_get_past}
+use Rattle.std.proofs.lemmas.Option.{slice_get_within, get_or_from_slice_get, slice_get_past}
 use Rattle.std.specs.Prelude.{if◌then◌else◌, slice_get, Option, Some, None, option_map, ◌||◌, ◌==◌, nat_lt, set, replicate}
 use Rattle.sa_typed.specs.Frames.{size, has_cells, same_home, is_reference, refers, some_refers, cells_from, offset_of}
 use Rattle.sa_typed.specs.Layouts.{layout_of}
@@ -16,7 +16,7 @@ use Rattle.sa_ir.specs.declared.table.Section.{Section}
 use Rattle.sa_ir.specs.declared.table.Seat.{Seat}
 use Rattle.sa_ir.specs.declared.table.Sections.{Sections}
 use Rattle.sa_ir.specs.Sizes.{capped}
-use Rattle.sa_ir.specs.Tables.{with_param, with_params, with_funcs, members, empty, pushed, section, section_of, seat, seat_at, AreSections, IsTable}
+use Rattle.sa_ir.specs.Tables.{with_param, with_params, with_funcs, members, empty, pushed, section, section_of, seat, seat_at, AreSections}
 use Rattle.sa_ir.proofs.CellLemmas.{length-taken}
 
 pub get-grown : {X : Type 0} (xs : List X) (d : X) (g : ℕ) → get_or (xs ++ d ∷ []) g d ≡ get_or xs g d

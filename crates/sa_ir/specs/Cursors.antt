@@ -1,6 +1,6 @@
 -- No promise of the top calls rests on this page: it is for laws beside them, for proofs and for inner functions.
 -- What the code keeps of a call and of a way into an object.
-use Rattle.std.specs.Prelude.{ℕ, ◌+◌, ◌-◌, ◌≡◌, ◌≤◌, ◌==◌, slice_get, List, [], ◌∷◌, length, if◌then◌else◌, Option, Some, None}
+use Rattle.std.specs.Prelude.{ℕ, ◌-◌, ◌≡◌, ◌≤◌, ◌==◌, slice_get, List, [], ◌∷◌, length, if◌then◌else◌, Option, Some, None}
 use Rattle.sa_typed.specs.Frames.{home_cells}
 use Rattle.sa_typed.specs.Layouts.{Layout, Layouts, no_field}
 use Rattle.sa_typed.specs.declared.expr.Step.{Step}

@@ -1,20 +1,18 @@
 -- Frames: what is known of one call while its function is lowered, and the cells that it has. The cells of the program are those
 -- of globals and static locals, then of main, then of each call in the order of the text, a call before those inside it: this
 -- project's own choice.
-use Rattle.std.specs.Prelude.{ℕ, zero, suc, ◌+◌, ◌==◌, List, [], ◌∷◌, ◌++◌, map, length, replicate, Bool, true, false, if◌then◌else◌, slice_get, Option, Some, None}
+use Rattle.std.specs.Prelude.{ℕ, zero, suc, ◌+◌, List, [], ◌∷◌, ◌++◌, map, length, true, false, if◌then◌else◌, slice_get, Option, Some, None}
 use Rattle.std.specs.List.{flat_map}
 use Rattle.sa_base.specs.declared.num.Num.{Num}
 use Rattle.sa_base.specs.declared.num.Num.TheVariants.{I32}
-use Rattle.sa_base.specs.declared.pos.Pos.{Pos}
 use Rattle.sa_typed.specs.Cells.{Inner, inner_cells, is_starred}
-use Rattle.sa_typed.specs.Executions.{initial_of, params_of, block_of}
-use Rattle.sa_typed.specs.Frames.{size, has_cells, home_cells, offset_of, all_kept, result_of}
+use Rattle.sa_typed.specs.Executions.{block_of}
+use Rattle.sa_typed.specs.Frames.{has_cells, home_cells, offset_of, all_kept, result_of}
 use Rattle.sa_typed.specs.Layouts.{Layout, layout_of}
 use Rattle.sa_typed.specs.WellTyped.{type_of}
 use Rattle.sa_typed.specs.declared.expr.Expr.{Expr, Read', Row_of-Step, end_of-Step, more_of-Step, more_of-Expr, end_of-Expr}
 use Rattle.sa_typed.specs.declared.expr.Expr.TheVariants as e
-use Rattle.sa_typed.specs.declared.expr.Access.{Access}
-use Rattle.sa_typed.specs.declared.expr.Step.{Step, At', Field}
+use Rattle.sa_typed.specs.declared.expr.Step.{At', Field}
 use Rattle.sa_typed.specs.declared.program.Home.{Home}
 use Rattle.sa_typed.specs.declared.program.Home.TheVariants as home
 use Rattle.sa_typed.specs.declared.program.Var.{Var}

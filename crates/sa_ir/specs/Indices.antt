@@ -1,6 +1,6 @@
 -- What lowering asks of a typed program: that each constant index has a type, so that its value can be computed. And rows of a
 -- tree as lists, as code goes over them.
-use Rattle.std.specs.Prelude.{ℕ, ◌+◌, ◌≡◌, List, [], ◌∷◌, ◌++◌, map, true}
+use Rattle.std.specs.Prelude.{ℕ, ◌+◌, ◌≡◌, List, [], ◌∷◌, ◌++◌, true}
 use Rattle.std.specs.List.{All}
 use Rattle.sa_typed.specs.Constants.{is_constant}
 use Rattle.sa_typed.specs.Layouts.{Layout}

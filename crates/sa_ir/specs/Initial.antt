@@ -3,7 +3,7 @@
 use Rattle.std.specs.Prelude.{ℕ, zero, suc, ◌+◌, ◌*◌, ℤ, pos, List, [], ◌∷◌, length, get_or, map, Option, Some, None}
 use Rattle.std.specs.Int.{int_min, int_max}
 use Rattle.sa_typed.specs.Layouts.{Layout, row, fields, nums, nth_field, before_field, or_nothing}
-use Rattle.sa_typed.specs.Cells.{Step, one, all, of, Inner, inner_cells}
+use Rattle.sa_typed.specs.Cells.{Step, one, all, of, inner_cells}
 use Rattle.sa_ir.specs.declared.ir.Ends.{Ends}
 
 abbrev pub single : ℤ → Ends

@@ -1,6 +1,6 @@
 -- No promise of the top calls rests on this page: it is for laws beside them, for proofs and for inner functions.
 -- The name of a cell by its number within an object, step by step.
-use Rattle.std.specs.Prelude.{ℕ, zero, suc, ◌+◌, ◌-◌, ◌/◌, ◌%◌, ◌≡◌, ◌≤◌, ◌<◌, List, [], ◌∷◌, ◌++◌, length, get_or, codes, if◌then◌else◌, nat_le, nat_lt, Option, MatchOption}
+use Rattle.std.specs.Prelude.{ℕ, suc, ◌+◌, ◌-◌, ◌/◌, ◌%◌, ◌≡◌, ◌≤◌, ◌<◌, List, [], ◌++◌, length, get_or, codes, if◌then◌else◌, nat_le, nat_lt, Option, MatchOption}
 use Rattle.std.specs.Fmt.{decimal}
 use Rattle.sa_typed.specs.Cells.{most_elements}
 use Rattle.sa_typed.specs.Frames.{size}

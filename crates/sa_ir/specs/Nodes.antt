@@ -1,6 +1,6 @@
 -- Lowered statements, call by call: an argument is an assignment to its parameter, or keeps the indices of a reference's place; the
 -- called body is a block; the result is assigned from its hidden cell. Numbers of cells and loops are sums of what stands before.
-use Rattle.std.specs.Prelude.{ℕ, zero, suc, ◌+◌, ◌==◌, List, [], ◌∷◌, ◌++◌, length, reverse, Bool, if◌then◌else◌, slice_get, Option, Some, None, option_map}
+use Rattle.std.specs.Prelude.{ℕ, zero, suc, ◌+◌, ◌==◌, List, [], ◌∷◌, ◌++◌, reverse, if◌then◌else◌, slice_get, Option, Some, None, option_map}
 use Rattle.sa_base.specs.declared.num.Num.{Num}
 use Rattle.sa_base.specs.declared.num.Num.TheVariants.{I32}
 use Rattle.sa_base.specs.declared.pos.Pos.{Pos}
@@ -9,9 +9,7 @@ use Rattle.sa_typed.specs.Frames.{size, home_cells, all_kept, kept_indices, acce
 use Rattle.sa_typed.specs.Layouts.{layout_of, num_in, struct_layout}
 use Rattle.sa_typed.specs.declared.expr.Expr.{Expr, Read', Row_of-Step, end_of-Step, more_of-Step, more_of-Expr, end_of-Expr}
 use Rattle.sa_typed.specs.declared.expr.Expr.TheVariants as e
-use Rattle.sa_typed.specs.declared.expr.Access.{Access}
-use Rattle.sa_typed.specs.declared.expr.Step.{Step, At', Field}
-use Rattle.sa_typed.specs.declared.program.Home.{Home}
+use Rattle.sa_typed.specs.declared.expr.Step.{At', Field}
 use Rattle.sa_typed.specs.declared.program.Home.TheVariants as home
 use Rattle.sa_typed.specs.declared.program.Param.{Param}
 use Rattle.sa_typed.specs.declared.program.Program.{Program}
@@ -23,7 +21,6 @@ use Rattle.sa_typed.specs.declared.stmt.Arg.{Arg}
 use Rattle.sa_typed.specs.declared.stmt.Arg.TheVariants.{Value as ByValue, Object as ByReference}
 use Rattle.sa_typed.specs.declared.stmt.Destination.{Destination}
 use Rattle.sa_typed.specs.declared.stmt.Stmt.{Stmt, Row_of-Stmt, end_of-Stmt, more_of-Stmt, Row_of-Group, end_of-Group, more_of-Group}
-use Rattle.sa_ir.specs.declared.expr.IrExpr.{IrExpr}
 use Rattle.sa_ir.specs.declared.expr.IrExpr.TheVariants as ir
 use Rattle.sa_ir.specs.declared.frame.Target.{Target}
 use Rattle.sa_ir.specs.declared.node.IrAssign.{IrAssign}

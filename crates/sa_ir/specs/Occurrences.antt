@@ -2,12 +2,11 @@
 -- dimension, but for a constant one, which names none where it wasn't folded. This project's own choice.
 use Rattle.std.specs.Prelude.{ℕ, zero, suc, ◌+◌, ◌==◌, List, [], ◌∷◌, ◌++◌, Bool, true, false, ◌&&◌, if◌then◌else◌, Option, Some, None}
 use Rattle.std.specs.List.{flat_map}
-use Rattle.sa_base.specs.declared.num.Num.{Num}
 use Rattle.sa_base.specs.declared.num.Num.TheVariants.{I32}
 use Rattle.sa_ir.specs.declared.expr.IrExpr.{IrExpr, Number, Read', Input, Prefix', Cast', Chain', And', Or', Choice', end_of-IrExpr, more_of-IrExpr, Row_of-IrExpr, Row_of-IrLink, end_of-IrLink, more_of-IrLink, Row_of-Row, end_of-Row, more_of-Row}
 use Rattle.sa_ir.specs.declared.expr.IrExpr.TheVariants as ir
 use Rattle.sa_ir.specs.declared.expr.IrPlace.{IrPlace}
-use Rattle.sa_ir.specs.declared.expr.Row.{Row, At', Kept}
+use Rattle.sa_ir.specs.declared.expr.Row.{At', Kept}
 use Rattle.sa_ir.specs.declared.node.IrAssign.{IrAssign}
 use Rattle.sa_ir.specs.declared.node.IrAssign.TheVariants as assign
 use Rattle.sa_ir.specs.declared.node.Node.{Node, Row_of-Node, end_of-Node, more_of-Node, Row_of-IrGroup, end_of-IrGroup, more_of-IrGroup}

@@ -1,18 +1,16 @@
 -- Lowered places and expressions. A place begins at what its variable stands for in the call. A field, and a constant index that
 -- names an element, lead to a later first cell; every other index stays, with its stride. In an array that has one cell for all
 -- its elements an index leads nowhere further. This project's own choice.
-use Rattle.std.specs.Prelude.{ℕ, ◌+◌, ◌*◌, ◌==◌, List, [], ◌∷◌, ◌++◌, map, Bool, nat_le, if◌then◌else◌, Option, Some, None}
-use Rattle.sa_base.specs.declared.num.Num.{Num}
+use Rattle.std.specs.Prelude.{ℕ, ◌+◌, ◌*◌, List, [], ◌∷◌, ◌++◌, map, nat_le, if◌then◌else◌, Option, Some, None}
 use Rattle.sa_base.specs.declared.num.Num.TheVariants.{I32}
-use Rattle.sa_base.specs.declared.pos.Pos.{Pos}
 use Rattle.sa_typed.specs.Cells.{most_elements}
 use Rattle.sa_typed.specs.Constants.{is_constant, fixed_index}
-use Rattle.sa_typed.specs.Frames.{size, indices_of, access_indices}
-use Rattle.sa_typed.specs.Layouts.{Layout, Layouts, leaf, row, fields, no_field, layout_of}
+use Rattle.sa_typed.specs.Frames.{size}
+use Rattle.sa_typed.specs.Layouts.{Layout, row, fields, layout_of}
 use Rattle.sa_typed.specs.declared.expr.Expr.{Expr, Number, Read', Input, Prefix', Cast', Chain', And', Or', Choice', end_of-Expr, more_of-Expr, Row_of-Expr, Row_of-Link, end_of-Link, more_of-Link, Row_of-Step, end_of-Step, more_of-Step}
 use Rattle.sa_typed.specs.declared.expr.Expr.TheVariants as e
 use Rattle.sa_typed.specs.declared.expr.Access.{Access}
-use Rattle.sa_typed.specs.declared.expr.Step.{Step, At', Field}
+use Rattle.sa_typed.specs.declared.expr.Step.{At', Field}
 use Rattle.sa_typed.specs.declared.program.Program.{Program}
 use Rattle.sa_ir.specs.declared.expr.IrExpr.{IrExpr}
 use Rattle.sa_ir.specs.declared.expr.IrExpr.TheVariants as ir

@@ -2,27 +2,22 @@
 -- calls included, each once and rising. In scope are the globals that are declared before the loop's word, and the parameters,
 -- locals and static locals of the loop's own call that are declared before it in a block around it (ISO C 6.2.1p4). This project's
 -- own choice.
-use Rattle.std.specs.Prelude.{ℕ, zero, suc, ◌+◌, ◌==◌, List, [], ◌∷◌, ◌++◌, filter, replicate, Bool, true, false, ◌&&◌, ◌||◌, nat_le, nat_lt, if◌then◌else◌, length, slice_get, Option, Some, None, option_map}
+use Rattle.std.specs.Prelude.{ℕ, zero, suc, ◌+◌, ◌==◌, List, [], ◌∷◌, ◌++◌, filter, replicate, Bool, false, ◌&&◌, ◌||◌, nat_le, nat_lt, if◌then◌else◌, slice_get, Option, Some, None, option_map}
 use Rattle.std.specs.Ordering.{nat_cmp}
 use Rattle.std.specs.BTreeSet.{insert_key}
 use Rattle.sa_base.specs.declared.pos.Pos.{Pos}
 use Rattle.sa_typed.specs.Executions.{params_of, block_of}
 use Rattle.sa_typed.specs.Frames.{size, has_cells, frame_cells, cells_in, loops_in, body_cells, body_loops}
 use Rattle.sa_typed.specs.Layouts.{layout_of}
-use Rattle.sa_typed.specs.declared.expr.Expr.{Expr}
-use Rattle.sa_typed.specs.declared.program.Home.{Home}
 use Rattle.sa_typed.specs.declared.program.Home.TheVariants as home
 use Rattle.sa_typed.specs.declared.program.Param.{Param}
 use Rattle.sa_typed.specs.declared.program.Var.{Var}
 use Rattle.sa_typed.specs.declared.program.Program.{Program}
-use Rattle.sa_typed.specs.declared.stmt.Start.{Start}
 use Rattle.sa_typed.specs.declared.stmt.Simple.{Simple}
-use Rattle.sa_typed.specs.declared.stmt.Simple.TheVariants.{Declare, Assign, Compound, Copy}
-use Rattle.sa_typed.specs.declared.stmt.Arg.{Arg}
+use Rattle.sa_typed.specs.declared.stmt.Simple.TheVariants.{Declare}
 use Rattle.sa_typed.specs.declared.stmt.Stmt.{Stmt, Row_of-Stmt, end_of-Stmt, more_of-Stmt, Row_of-Group, end_of-Group, more_of-Group}
 use Rattle.sa_ir.specs.declared.frame.Span.{Span}
 use Rattle.sa_ir.specs.declared.ir.LoopInfo.{LoopInfo}
-use Rattle.sa_ir.specs.declared.node.Node.{Node}
 use Rattle.sa_ir.specs.Names.{loop_text}
 use Rattle.sa_ir.specs.Frames.{Frame}
 use Rattle.sa_ir.specs.Places.{lowered}

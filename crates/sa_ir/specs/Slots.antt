@@ -6,7 +6,7 @@ use Rattle.std.specs.List.{flat_map}
 use Rattle.sa_base.specs.declared.num.Num.{Num}
 use Rattle.sa_ir.specs.declared.ir.Ends.{Ends}
 use Rattle.sa_ir.specs.Initial.{single, join_some}
-use Rattle.sa_typed.specs.Layouts.{Layout, Layouts, row, fields, no_field, field, nums}
+use Rattle.sa_typed.specs.Layouts.{Layout, Layouts, no_field, field, nums}
 use Rattle.sa_typed.specs.Cells.{Inner, inner_cells, is_starred}
 use Rattle.sa_ir.specs.Initial.{initial_ends}
 use Rattle.sa_ir.specs.declared.slots.Elements.{Elements}

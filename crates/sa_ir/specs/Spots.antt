@@ -1,6 +1,6 @@
 -- No promise of the top calls rests on this page: it is for laws beside them, for proofs and for inner functions.
 -- Objects that are still to be read for their cells, the next one last.
-use Rattle.std.specs.Prelude.{ℕ, zero, suc, ◌+◌, ◌*◌, ◌≡◌, ◌<◌, ℤ, List, [], ◌∷◌, ◌++◌, length, map, ◌≤◌, ◌==◌, ◌||◌, Bool, nat_lt, if◌then◌else◌, nat_le, true, false, Option, Some, None, slice_get}
+use Rattle.std.specs.Prelude.{ℕ, zero, suc, ◌+◌, ◌*◌, ◌≡◌, ◌<◌, ℤ, List, [], ◌∷◌, ◌++◌, length, map, ◌≤◌, ◌==◌, ◌||◌, Bool, nat_lt, if◌then◌else◌, nat_le, true, false, Option, Some, slice_get}
 use Rattle.sa_typed.specs.Layouts.{Layout, Layouts, leaf, row, fields, no_field, field, nums}
 use Rattle.sa_typed.specs.Cells.{most_elements, inner_cells, is_starred}
 use Rattle.sa_typed.specs.declared.shape.Plain.{Plain}

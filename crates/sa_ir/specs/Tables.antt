@@ -1,6 +1,6 @@
 -- No promise of the top calls rests on this page: it is for laws beside them, for proofs and for inner functions.
 -- What the code keeps of variables: which are references, where their cells stand, and the variables of each home.
-use Rattle.std.specs.Prelude.{ℕ, zero, suc, ◌+◌, ◌≡◌, ◌≤◌, ◌<◌, List, [], ◌∷◌, ◌++◌, length, take, get_or, replicate, reverse, set, Bool, true, false, ◌&&◌, nat_lt, if◌then◌else◌, slice_get, option_map, Option, Some, None}
+use Rattle.std.specs.Prelude.{ℕ, ◌+◌, ◌≡◌, List, [], ◌∷◌, ◌++◌, length, take, get_or, reverse, set, Bool, true, ◌&&◌, nat_lt, if◌then◌else◌, slice_get, option_map, Option}
 use Rattle.sa_typed.specs.Frames.{size, has_cells, cells_from, offset_of}
 use Rattle.sa_typed.specs.Layouts.{layout_of}
 use Rattle.sa_typed.specs.declared.program.Home.{Home}

@@ -1,4 +1,4 @@
-use Rattle.std.proofs.Common.{◌≡◌, ◌∙◌, ◌+◌, sym, ap, drop, get_or}
+use Rattle.std.proofs.Common.{◌∙◌, ◌+◌, sym, ap, drop}
 use Rattle.sa_base.specs.declared.num.Num.{Num}
 use Rattle.sa_typed.specs.Arithmetic.{result_type}
 use Rattle.sa_typed.specs.declared.expr.Link.{Link, out-Link}

@@ -1,9 +1,7 @@
-use Rattle.std.proofs.Common.{◌≡◌, ◌∙◌, ◌++◌, List, ap, slice_get}
+use Rattle.std.proofs.Common.{◌∙◌, ◌++◌, ap}
 use Rattle.std.proofs.lemmas.Result.{on_ok_weaker}
-use Rattle.std.specs.List.{flat_map}
 use Rattle.std.specs.Prelude.{Option}
 use Rattle.sa_base.specs.declared.num.Num.{Num}
-use Rattle.sa_ir.specs.declared.ir.Cell.{Cell}
 use Rattle.sa_ir.specs.Frames.{result_cells, call_cells}
 use Rattle.sa_ir.proofs.CallLemmas.{three-joined}
 use Rattle.sa_ir.proofs.cells.push_call.Goals as goal

@@ -1,10 +1,7 @@
-use Rattle.std.proofs.Common.{◌≡◌, ◌∙◌, ◌++◌, ◌∷◌, [], List, ℕ, length, get_or, slice_get, Some, refl, sym, ap, append-nil, arith}
+use Rattle.std.proofs.Common.{◌≡◌, ◌∙◌, ◌++◌, List, ℕ, length, Some, refl, sym, ap, append-nil}
 use Rattle.sa_ir.specs.declared.ir.Cell.{Cell}
 use Rattle.sa_ir.specs.declared.names.Inside.{Inside}
-use Rattle.sa_ir.specs.declared.slots.Slot.{Slot}
-use Rattle.sa_ir.specs.Lists.{cell_at}
 use Rattle.sa_ir.specs.Names.{var_text}
-use Rattle.sa_ir.specs.Naming.{inside_name}
 use Rattle.sa_ir.proofs.GroundLemmas.{covers-all}
 use Rattle.sa_ir.proofs.CallLemmas.{no-object, object-inside, object-more, object-end}
 use Rattle.sa_ir.proofs.cells.push_object.Goals as goal

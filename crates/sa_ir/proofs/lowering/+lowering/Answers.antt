@@ -1,4 +1,4 @@
-use Rattle.std.proofs.Common.{rules, subst, true, ◌≡◌, ◌∙◌, ◌++◌, ◌∷◌, [], List, map, ap, sym, refl}
+use Rattle.std.proofs.Common.{rules, subst, true, ◌≡◌, ◌∙◌, ◌++◌, ◌∷◌, [], List, ap, sym}
 use Rattle.sa_typed.specs.declared.expr.Expr.{Expr, the_lemmas}
 use Rattle.sa_typed.specs.Constants.{is_constant}
 use Rattle.sa_typed.specs.Links.{HasType}

@@ -1,5 +1,3 @@
-use Rattle.std.proofs.Common.{◌∙◌, ◌++◌, ◌∷◌, [], ap}
-use Rattle.sa_ir.specs.declared.frame.Kept.{Kept}
 use Rattle.sa_ir.specs.Places.{kept_row}
 use Rattle.sa_ir.proofs.LowerLaws.{map-more, map-end}
 use Rattle.sa_ir.proofs.lowering.kept_rows.Goals as goal

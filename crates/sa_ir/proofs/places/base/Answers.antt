@@ -1,4 +1,4 @@
-use Rattle.std.proofs.Common.{◌≡◌, ◌∙◌, sym, ap, List, []}
+use Rattle.std.proofs.Common.{◌∙◌, sym, ap, List}
 use Rattle.std.specs.Prelude.{None}
 use Rattle.sa_ir.specs.declared.frame.Kept.{Kept}
 use Rattle.sa_ir.specs.declared.frame.Reference.{Reference}

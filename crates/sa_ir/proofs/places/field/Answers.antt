@@ -1,4 +1,4 @@
-use Rattle.std.proofs.Common.{◌∙◌, refl, sym, ap, arith}
+use Rattle.std.proofs.Common.{refl, arith}
 use Rattle.std.proofs.lemmas.List.{nil_from_length}
 use Rattle.sa_ir.proofs.StepLemmas.{here}
 use Rattle.sa_ir.proofs.PlaceLaws.{field-stays, array-none, scalar-none, beyond-none, struct-here}

@@ -1,6 +1,6 @@
-use Rattle.std.proofs.Common.{◌≡◌, ◌∙◌, ◌≤◌, sym, ap, List, slice_get, Some, arith}
+use Rattle.std.proofs.Common.{◌≡◌, ◌∙◌, sym, ap, List, slice_get, Some, arith}
 use Rattle.sa_typed.specs.declared.program.Var.{Var}
-use Rattle.sa_ir.proofs.PlaceLaws.{own-nowhere, no-seat, own-is}
+use Rattle.sa_ir.proofs.PlaceLaws.{own-nowhere, own-is}
 use Rattle.sa_ir.proofs.places.own_first.Goals as goal
 
 pub returns-in_default : goal.returns-in_default

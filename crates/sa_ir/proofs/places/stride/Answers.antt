@@ -1,4 +1,4 @@
-use Rattle.std.proofs.Common.{◌∙◌, ap, arith, length, drop}
+use Rattle.std.proofs.Common.{◌∙◌, ap, arith}
 use Rattle.std.proofs.lemmas.List.{nil_from_length}
 use Rattle.sa_ir.specs.declared.sizes.Extent.{Extent}
 use Rattle.sa_ir.proofs.GroundLemmas.{covers-all}

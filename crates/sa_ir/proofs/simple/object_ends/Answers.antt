@@ -1,7 +1,6 @@
 use Rattle.std.proofs.Common.{◌∙◌, sym, ap, List, slice_get}
 use Rattle.std.specs.Prelude.{map}
 use Rattle.sa_typed.specs.declared.program.Var.{Var}
-use Rattle.sa_ir.specs.declared.slots.Slot.{Slot}
 use Rattle.sa_ir.specs.Indices.{slot_ends}
 use Rattle.sa_ir.proofs.GroundLemmas.{covers-all}
 use Rattle.sa_ir.proofs.SimpleLaws.{ends-are, ends-nowhere}

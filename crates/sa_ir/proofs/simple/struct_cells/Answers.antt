@@ -1,4 +1,4 @@
-use Rattle.std.proofs.Common.{◌∙◌, ap, arith, subst, sym, ℕ}
+use Rattle.std.proofs.Common.{◌∙◌, ap, subst, sym, ℕ}
 use Rattle.sa_typed.specs.Frames.{size}
 use Rattle.sa_typed.specs.Layouts.{Layout}
 use Rattle.sa_ir.specs.declared.sizes.Extent.{Extent}

@@ -1,8 +1,8 @@
-use Rattle.std.proofs.Common.{◌≡◌, ◌∙◌, ◌*◌, ◌+◌, ap, sym, ℕ, List, drop, length, get_or, refl}
+use Rattle.std.proofs.Common.{◌≡◌, ◌∙◌, ◌*◌, ◌+◌, ap, sym, drop, length, get_or, refl}
 use Rattle.sa_typed.specs.Layouts.{Layout, nums, rows}
 use Rattle.sa_ir.specs.declared.sizes.Extent.{Extent}
 use Rattle.sa_typed.specs.Frames.{size}
-use Rattle.sa_ir.specs.Sizes.{capped, cells_for, among, no_array, shape_of}
+use Rattle.sa_ir.specs.Sizes.{capped, among, no_array, shape_of}
 use Rattle.sa_ir.proofs.SizeLemmas.{among-rows, cells-step, elements-step, capped-right, no-dims, one-times}
 use Rattle.sa_ir.proofs.sizes.dims_extent.Goals as goal
 

@@ -1,4 +1,4 @@
-use Rattle.std.proofs.Common.{◌≡◌, ◌∙◌, ap, get_or}
+use Rattle.std.proofs.Common.{◌∙◌, ap}
 use Rattle.sa_typed.specs.declared.shape.FieldDef.{FieldDef}
 use Rattle.sa_ir.specs.Sizes.{extent_of, extents_from, fields_of, among}
 use Rattle.sa_ir.proofs.GroundLemmas.{extents-more, extents-end, small-extent}

@@ -1,4 +1,4 @@
-use Rattle.std.proofs.Common.{◌≡◌, ◌∙◌, ◌-◌, ap, sym, Some, List, length, slice_get}
+use Rattle.std.proofs.Common.{◌∙◌, ◌-◌, ap, sym, List, length, slice_get}
 use Rattle.sa_ir.specs.declared.sizes.Extent.{Extent}
 use Rattle.sa_ir.proofs.StepLemmas.{not-both}
 use Rattle.sa_ir.proofs.SizeLemmas.{beyond-extent, in-table, extents-some}

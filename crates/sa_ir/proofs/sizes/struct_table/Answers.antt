@@ -1,8 +1,7 @@
-use Rattle.std.proofs.Common.{◌≡◌, ◌∙◌, ◌+◌, ◌≤◌, ap, sym, List, length, reverse, take, get_or, arith}
+use Rattle.std.proofs.Common.{◌∙◌, ◌+◌, ap, sym, List, length, reverse, take, get_or, arith}
 use Rattle.sa_typed.specs.declared.shape.StructDef.{StructDef}
 use Rattle.sa_typed.specs.declared.shape.FieldDef.{FieldDef}
-use Rattle.sa_ir.specs.declared.sizes.Extent.{Extent}
-use Rattle.sa_ir.specs.Sizes.{all_extents, extents_from, fields_of, Covers}
+use Rattle.sa_ir.specs.Sizes.{all_extents, extents_from, fields_of}
 use Rattle.sa_ir.proofs.GroundLemmas.{covers-first, table-more}
 use Rattle.sa_ir.proofs.sizes.struct_table.Goals as goal
 

@@ -1,4 +1,4 @@
-use Rattle.std.proofs.Common.{◌≡◌, ◌∙◌, ◌+◌, ◌-◌, ◌≤◌, ◌<◌, ◌∷◌, ◌++◌, [], ap, sym, refl, subst, ℕ, List, length, take, get_or, arith}
+use Rattle.std.proofs.Common.{◌≡◌, ◌∙◌, ◌-◌, ◌∷◌, ◌++◌, [], ap, sym, refl, subst, ℕ, List, length, take, get_or, arith}
 use Rattle.std.proofs.lemmas.List.{take_all}
 use Rattle.sa_typed.specs.Layouts.{Layout, nums, row, rows}
 use Rattle.sa_ir.specs.declared.sizes.Extent.{Extent}

@@ -1,4 +1,4 @@
-use Rattle.std.proofs.Common.{◌≡◌, ◌∙◌, ◌<◌, ap, sym, subst, length, arith, Option, Some, None, false}
+use Rattle.std.proofs.Common.{◌∙◌, ap, sym, subst, arith, Option, Some, None, false}
 use Rattle.std.proofs.lemmas.Option.{slice_get-get_or}
 use Rattle.sa_typed.specs.declared.shape.Plain.{Plain}
 use Rattle.sa_ir.specs.declared.slots.Core.{Core}

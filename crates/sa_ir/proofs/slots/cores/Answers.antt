@@ -1,4 +1,4 @@
-use Rattle.std.proofs.Common.{◌≡◌, ◌∙◌, ◌+◌, ◌∷◌, ◌++◌, [], ap, sym, subst, ℕ, List, length, get_or, length-append, arith, Option, Some}
+use Rattle.std.proofs.Common.{◌≡◌, ◌∙◌, ◌∷◌, ◌++◌, [], ap, sym, subst, ℕ, List, length, get_or, length-append, arith, Option}
 use Rattle.std.proofs.lemmas.Option.{get_or_from_slice_get}
 use Rattle.sa_ir.specs.declared.slots.Core.{Core}
 use Rattle.sa_typed.specs.declared.shape.Plain.TheVariants.{Struct}

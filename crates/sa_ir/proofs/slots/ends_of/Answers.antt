@@ -1,4 +1,4 @@
-use Rattle.std.proofs.Common.{◌∙◌, ap, sym, List, ℕ, ℤ, Some, drop, arith}
+use Rattle.std.proofs.Common.{◌∙◌, ap, sym, ℤ, Some, drop, arith}
 use mir.Syntax.{w128}
 use Rattle.std.specs.Prelude.{Option, option_map}
 use Rattle.std.proofs.lemmas.Int.{to_z-of_z}

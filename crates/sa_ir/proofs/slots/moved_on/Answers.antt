@@ -1,5 +1,4 @@
-use Rattle.std.proofs.Common.{◌≡◌, ◌∙◌, ◌||◌, ap, Bool, List, ℕ}
-use Rattle.sa_ir.specs.declared.slots.Elements.{Elements}
+use Rattle.std.proofs.Common.{◌∙◌, ◌||◌, ap, Bool, List, ℕ}
 use Rattle.sa_ir.specs.Slots.{moved_on, kept, any_past}
 use Rattle.sa_ir.proofs.slots.moved_on.Goals as goal
 

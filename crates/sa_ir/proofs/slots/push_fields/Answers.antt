@@ -1,16 +1,13 @@
-use Rattle.std.proofs.Common.{◌≡◌, ◌∙◌, ◌+◌, ◌-◌, ◌≤◌, ◌++◌, [], ap, refl, sym, subst, List, ℕ, length, drop, get_or, append_assoc, ◌^◌, arith, rules}
-use Rattle.std.specs.Prelude.{slice_get, Some}
+use Rattle.std.proofs.Common.{◌≡◌, ◌∙◌, ◌-◌, ◌≤◌, ◌++◌, ap, refl, sym, List, length, drop, get_or, append_assoc, ◌^◌, arith, rules}
 use Rattle.std.proofs.lemmas.Option.{slice_get_read}
 use Rattle.sa_typed.specs.Layouts.{before_field}
 use Rattle.sa_typed.specs.declared.shape.FieldDef.{FieldDef}
 use Rattle.sa_typed.specs.declared.shape.StructDef.{StructDef}
-use Rattle.sa_ir.specs.declared.sizes.Extent.{Extent}
-use Rattle.sa_typed.specs.declared.shape.Plain.TheVariants.{Struct}
 use Rattle.sa_ir.specs.declared.slots.Elements.{Elements}
 use Rattle.sa_ir.specs.declared.slots.Slot.{Slot}
 use Rattle.sa_ir.specs.Sizes.{among, fields_of}
 use Rattle.sa_ir.specs.Slots.{slots_in, moved_on, fields_in}
-use Rattle.sa_ir.specs.Spots.{base_layout, left, work, works, weight}
+use Rattle.sa_ir.specs.Spots.{left, work, works}
 use Rattle.sa_ir.proofs.FieldLemmas.{fields-step, works-step, fields-last, fields-whole, works-whole, in-table, extents-long, moved-by}
 use Rattle.sa_ir.proofs.slots.push_fields.Goals as goal
 

@@ -1,4 +1,4 @@
-use Rattle.std.proofs.Common.{◌≡◌, ◌∙◌, ◌+◌, ◌*◌, ◌≤◌, ◌++◌, [], ap, refl, sym, subst, List, ℕ, length, arith}
+use Rattle.std.proofs.Common.{◌≡◌, ◌∙◌, ◌*◌, ◌++◌, [], ap, refl, sym, subst, List, ℕ, length, arith}
 use Rattle.std.specs.List.{flat_map}
 use Rattle.std.proofs.lemmas.List.{nil_from_length}
 use Rattle.sa_typed.specs.Layouts.{Layout, nums}
@@ -6,7 +6,7 @@ use Rattle.sa_ir.specs.declared.slots.Elements.{Elements}
 use Rattle.sa_ir.specs.declared.slots.Slot.{Slot}
 use Rattle.sa_ir.specs.Sizes.{among, no_array, capped}
 use Rattle.sa_ir.specs.Slots.{slots_in}
-use Rattle.sa_ir.specs.Spots.{AreKnown, HasWidths, left, work, weight, wound}
+use Rattle.sa_ir.specs.Spots.{AreKnown, left, work}
 use Rattle.sa_ir.proofs.SpotLemmas.{none-within, known-push, spot-step, weight-step, nothing-read}
 use Rattle.sa_ir.proofs.slots.push_spots.Goals as goal
 

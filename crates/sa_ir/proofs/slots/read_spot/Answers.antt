@@ -1,10 +1,10 @@
-use Rattle.std.proofs.Common.{◌≡◌, ◌∙◌, ◌+◌, ◌∷◌, [], ◌++◌, ap, sym, List, append_assoc, arith}
+use Rattle.std.proofs.Common.{◌≡◌, ◌∙◌, ◌∷◌, [], ◌++◌, ap, sym, List, append_assoc, arith}
 use Rattle.std.specs.Prelude.{Option}
 use Rattle.sa_ir.specs.declared.ir.Ends.{Ends}
-use Rattle.sa_typed.specs.Layouts.{Layout, leaf}
+use Rattle.sa_typed.specs.Layouts.{Layout}
 use Rattle.sa_ir.specs.declared.slots.Slot.{Slot}
 use Rattle.sa_ir.specs.Slots.{slots_in, slot, or_zero}
-use Rattle.sa_ir.specs.Spots.{base_layout, left, work, weight}
+use Rattle.sa_ir.specs.Spots.{base_layout, left, work}
 use Rattle.sa_ir.proofs.SlotLaws.{slots-leaf}
 use Rattle.sa_ir.proofs.SpotLemmas.{values-spread, number-is, number-work}
 use Rattle.sa_ir.proofs.slots.read_spot.Goals as goal

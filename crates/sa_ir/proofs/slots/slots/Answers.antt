@@ -1,4 +1,4 @@
-use Rattle.std.proofs.Common.{◌≡◌, ◌∙◌, ◌+◌, ◌∷◌, [], ◌++◌, ap, refl, sym, subst, List, ℕ, length, append-nil, append_assoc, arith}
+use Rattle.std.proofs.Common.{◌≡◌, ◌∙◌, ◌+◌, [], ◌++◌, ap, sym, subst, List, ℕ, append-nil, arith}
 use Rattle.std.proofs.lemmas.List.{nil_from_length}
 use Rattle.sa_typed.specs.Layouts.{Layout, shape_layout}
 use Rattle.sa_ir.specs.declared.slots.Elements.{Elements}
@@ -6,7 +6,7 @@ use Rattle.sa_ir.specs.declared.slots.Slot.{Slot}
 use Rattle.sa_ir.specs.declared.slots.Spot.{Spot}
 use Rattle.sa_ir.specs.Sizes.{among}
 use Rattle.sa_ir.specs.Slots.{slots_in}
-use Rattle.sa_ir.specs.Spots.{AreKnown, base_layout, left, spot_slots, work, weight, first_element}
+use Rattle.sa_ir.specs.Spots.{AreKnown, base_layout, left, work, weight}
 use Rattle.sa_ir.proofs.StepLemmas.{among-all}
 use Rattle.sa_ir.proofs.SpotLemmas.{known-pop, left-push, weight-push, left-none, first-slots}
 use Rattle.sa_ir.proofs.slots.slots.Goals as goal

@@ -1,6 +1,5 @@
-use Rattle.std.proofs.Common.{◌≡◌, ◌∙◌, ◌||◌, ap, sym, Bool, true, List, ℕ}
+use Rattle.std.proofs.Common.{◌∙◌, ◌||◌, ap, Bool, true, List, ℕ}
 use Rattle.std.specs.List.{flat_map}
-use Rattle.sa_ir.specs.declared.slots.Elements.{Elements}
 use Rattle.sa_ir.specs.Slots.{run, any_stops, together}
 use Rattle.sa_ir.proofs.RunLemmas.{flat-step, flat-last, stops-more, stops-end}
 use Rattle.sa_ir.proofs.slots.together.Goals as goal

@@ -1,6 +1,6 @@
-use Rattle.std.proofs.Common.{◌≡◌, ◌∙◌, ◌*◌, ap, ℕ, List, length, map, Vec, arith}
+use Rattle.std.proofs.Common.{◌≡◌, ◌∙◌, ◌*◌, ap, List, length, map, arith}
 use Rattle.std.specs.List.{flat_map}
-use Rattle.sa_typed.specs.Layouts.{Layout, row}
+use Rattle.sa_typed.specs.Layouts.{row}
 use Rattle.sa_ir.specs.declared.slots.Elements.{Elements}
 use Rattle.sa_ir.specs.Slots.{slots_in, apart, together}
 use Rattle.sa_ir.specs.Spots.{work}

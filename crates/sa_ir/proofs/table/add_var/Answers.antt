@@ -1,8 +1,7 @@
-use Rattle.std.proofs.Common.{rules, ◌≡◌, ◌∙◌, ◌<◌, ℕ, List, Bool, true, false, length, get_or, slice_get, Some, refl, sym, ap, subst, arith}
+use Rattle.std.proofs.Common.{rules, ◌≡◌, ◌∙◌, ℕ, List, true, false, length, get_or, refl, sym, ap, subst}
 use Rattle.std.proofs.lemmas.Option.{slice_get_read}
-use Rattle.sa_typed.specs.Frames.{size, offset_of}
+use Rattle.sa_typed.specs.Frames.{size}
 use Rattle.sa_typed.specs.Layouts.{Layout, layout_of}
-use Rattle.sa_typed.specs.declared.program.Home.{Home}
 use Rattle.sa_typed.specs.declared.program.Var.{Var}
 use Rattle.sa_ir.specs.declared.sizes.Extent.{Extent}
 use Rattle.sa_ir.specs.declared.table.Section.{Section}

@@ -1,7 +1,6 @@
-use Rattle.std.proofs.Common.{◌≡◌, ◌∙◌, ◌<◌, ◌+◌, ℕ, Bool, List, length, get_or, sym, ap, subst, arith}
-use Rattle.sa_typed.specs.declared.program.Home.{Home}
+use Rattle.std.proofs.Common.{◌≡◌, ◌∙◌, ◌+◌, ℕ, Bool, List, length, get_or, sym, ap, subst, arith}
 use Rattle.sa_typed.specs.Frames.{is_reference}
-use Rattle.sa_ir.specs.Tables.{section, section_of, seat_at, AreSections}
+use Rattle.sa_ir.specs.Tables.{seat_at, AreSections}
 use Rattle.sa_ir.proofs.TableLemmas.{seated-none, sections-none, seated-more, seated-all, flags-long, flag-is}
 use Rattle.sa_ir.proofs.table.seats.Goals as goal
 

@@ -1,4 +1,3 @@
-use Rattle.std.proofs.Common.{◌≡◌}
 use Rattle.sa_ir.specs.Tables.{AreSections}
 use Rattle.sa_ir.proofs.TableLemmas.{Seated}
 use Rattle.sa_ir.proofs.table.seats.Given as goal
