@@ -1,0 +1,16 @@
+pub mod Initial
+pub mod Names
+pub mod Naming
+pub mod Sizes
+pub mod Slots
+pub mod Spots
+pub mod Tables
+pub mod Frames
+pub mod Lists
+pub mod Places
+pub mod Indices
+pub mod Cursors
+pub mod Nodes
+pub mod Occurrences
+pub mod Shown
+pub mod Lowered

@@ -1,0 +1,49 @@
+//! What the variables of one call stand for.
+
+use sqlite_items::Items;
+
+/// An index of a reference's argument: the hidden cell that keeps it, how many elements the dimension has, and the stride.
+#[derive(Clone, Copy, Debug, PartialEq, Eq)]
+pub(crate) struct Kept {
+    pub(crate) cell: u32,
+    pub(crate) size: u32,
+    pub(crate) stride: u32,
+}
+
+/// The place that a variable stands for in a call: a first cell, and the indices that were kept when the call began.
+#[derive(Debug, Drop)]
+pub(crate) struct Target {
+    pub(crate) first: u32,
+    pub(crate) rows: Items<Kept>,
+}
+
+/// The cells of a variable: the first one, and how many there are.
+#[derive(Clone, Copy, Debug, PartialEq, Eq)]
+pub(crate) struct Span {
+    pub(crate) first: u32,
+    pub(crate) cells: usize,
+}
+
+/// A parameter that stands for another object in a call.
+#[derive(Debug, Drop)]
+pub(crate) struct Reference {
+    pub(crate) var: u32,
+    pub(crate) target: Target,
+}
+
+/// One call while its function is lowered: the text of the path that leads to it, the number of its first cell, the cell of its
+/// result, and what its references stand for.
+#[derive(Debug, Drop)]
+pub(crate) struct Frame {
+    pub(crate) prefix: Vec<u8>,
+    pub(crate) first: usize,
+    pub(crate) result: u32,
+    pub(crate) references: Vec<Reference>,
+}
+
+/// What a variable stands for: the number of its first cell, and the indices that were kept.
+#[derive(Clone, Copy)]
+pub(crate) struct Base<'a> {
+    pub(crate) first: u32,
+    pub(crate) rows: &'a [Kept],
+}
