@@ -4,17 +4,17 @@ use sqlite_items::Items;
 
 /// An index of a reference's argument: the hidden cell that keeps it, how many elements the dimension has, and the stride.
 #[derive(Clone, Copy, Debug, PartialEq, Eq)]
-pub(crate) struct Kept {
-    pub(crate) cell: u32,
-    pub(crate) size: u32,
-    pub(crate) stride: u32,
+pub struct Kept {
+    pub cell: u32,
+    pub size: u32,
+    pub stride: u32,
 }
 
 /// The place that a variable stands for in a call: a first cell, and the indices that were kept when the call began.
 #[derive(Debug, Drop)]
-pub(crate) struct Target {
-    pub(crate) first: u32,
-    pub(crate) rows: Items<Kept>,
+pub struct Target {
+    pub first: u32,
+    pub rows: Items<Kept>,
 }
 
 /// The cells of a variable: the first one, and how many there are.

@@ -19,6 +19,7 @@ mod slots;
 mod table;
 
 pub use expr::{IrExpr, IrLink, IrPlace, Row};
+pub use frame::{Kept, Target};
 pub use ir::{Cell, Ends, Ir, LoopInfo};
 pub use node::{IrAssign, IrGroup, Node};
 pub use std::alloc::AllocError as OutOfMemory;

@@ -1,0 +1,10 @@
+pub mod Domain
+pub mod Forms
+pub mod Passes
+pub mod Meanings
+pub mod Expressions
+pub mod Assignments
+pub mod Pieces
+pub mod Nodes
+pub mod Reference
+pub mod Intervals
