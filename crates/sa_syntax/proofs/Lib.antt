@@ -33,3 +33,6 @@ pub mod EndsBodies
 pub mod EndsUnit
 pub mod Nesting
 pub mod Samples
+pub mod Passing
+pub mod PassingStmt
+pub mod Rising

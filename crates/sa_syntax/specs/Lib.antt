@@ -11,3 +11,4 @@ pub mod ExprLaws
 pub mod StmtLaws
 pub mod Refusals
 pub mod RefusalLaws
+pub mod Places

@@ -2,6 +2,7 @@
 
 ghost use Rattle.sa_syntax.specs.SoundLaws.{MoreRoomReadsTheSame, MoreRoomReadsTheSameSource, ReadingsAreExpressions, ReadingsAreSources};
 ghost use Rattle.sa_syntax.specs.ExprLaws.{ReadsExpressions, ReadsPlaces, ReadsTypes, ReadsDeclrs};
+ghost use Rattle.sa_syntax.specs.Places.{PlacesRise};
 ghost use Rattle.sa_syntax.specs.RefusalLaws.{TellsDepth, TellsPlace};
 ghost use Rattle.sa_syntax.specs.StmtLaws.{ReadsStatements, ReadsSources, HasOneTree};
 
@@ -69,4 +70,10 @@ pub fn tells_depth()
 /// at no token before.
 pub fn tells_place()
     ensures { TellsPlace }
+{}
+
+/// In the block of a function the called names and the words of loops stand one after the other, as the tokens of the text do: so
+/// no two of them have one place.
+pub fn places_rise()
+    ensures { PlacesRise }
 {}

@@ -19,7 +19,7 @@ pub use decl::{
 pub use expr::{Expr, Link, Operator, Place, PlaceBase, Prefix, Step};
 pub use forms::{is_main, is_wait};
 pub use laws::{
-    has_one_tree, more_room_reads_the_same, more_room_reads_the_same_source,
+    has_one_tree, more_room_reads_the_same, more_room_reads_the_same_source, places_rise,
     readings_are_expressions, readings_are_sources, reads_declrs, reads_expressions, reads_places,
     reads_sources, reads_statements, reads_types, tells_depth, tells_place,
 };
