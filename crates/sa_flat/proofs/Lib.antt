@@ -35,5 +35,6 @@ pub mod CallLaws
 pub mod SimpleForms
 pub mod ValueLaws
 pub mod RefLaws
+pub mod ReferenceLaws
 pub mod SoundLaws
 mod Samples
