@@ -1,6 +1,6 @@
 -- Calls: arguments from left to right, the body as a block, and the result to its destination.
-use Rattle.std.proofs.Common.{append-nil, ◌≡◌, ◌⊎◌, ℕ, ◌+◌, ℤ, Bool, false, List, [], ◌∷◌, ◌++◌, refl, sym, ap, subst, arith, ◌∙◌, Option, None, Some, inl, inr}
-use Rattle.std.specs.Prelude.{◌==◌, if◌then◌else◌, slice_get}
+use Rattle.std.proofs.Common.{append-nil, ◌≡◌, ◌⊎◌, ℕ, ◌+◌, ℤ, Bool, true, false, List, [], ◌∷◌, ◌++◌, refl, sym, ap, subst, arith, ◌∙◌, Option, None, Some, inl, inr}
+use Rattle.std.specs.Prelude.{◌==◌, ◌||◌, if◌then◌else◌, slice_get}
 use Rattle.sa_base.specs.declared.num.Num.{Num}
 use Rattle.sa_base.specs.declared.num.Num.TheVariants.{I32}
 use Rattle.sa_base.specs.declared.pos.Pos.{Pos}
@@ -232,6 +232,35 @@ module _ (p : Program) (fr : Call) (x : Cells) (D : Domain) (L : Lawful x D) (ok
   end_stood stood (q ∷ params) (ByValue at a ∷ args) = end_stood stood params args
   end_stood stood (q ∷ params) (ByReference y ∷ args) = end_stood (with_stood stood q) params args
 
+  -- the objects that variables name are those from before, but for parameters that are references
+  unfoldable pub is_bound : ℕ → List Param → List Arg → Bool
+  is_bound v [] args = false
+  is_bound v (q ∷ params) [] = false
+  is_bound v (q ∷ params) (ByValue at a ∷ args) = is_bound v params args
+  is_bound v (q ∷ params) (ByReference y ∷ args) = v == q.var || is_bound v params args
+
+  abbrev pub Unbound : (ℕ → Place) → List Param → List Arg → (ℕ → Place) → Type 0
+  Unbound base params args after = (v : ℕ) → is_bound v params args ≡ false → after v ≡ base v
+
+  abbrev pub Others : (ℕ → Place) → Param → (ℕ → Place) → Type 0
+  Others base q after = (v : ℕ) → (v == q.var) ≡ false → after v ≡ base v
+
+  not_first : (a b : Bool) → (a || b) ≡ false → a ≡ false
+  not_first true b e = cc
+  not_first false b e = refl
+
+  not_second : (a b : Bool) → (a || b) ≡ false → b ≡ false
+  not_second true b e = cc
+  not_second false b e = e
+
+  after_value : (base after : ℕ → Place) (q : Param) (params : List Param) (at : Pos) (a : Expr) (args : List Arg) → Unbound base params args after → Unbound base (q ∷ params) (ByValue at a ∷ args) after
+  unfolding is_bound
+  after_value base after q params at a args u v e = u v e
+
+  after_reference : (base between after : ℕ → Place) (q : Param) (params : List Param) (y : Access) (args : List Arg) → Others base q between → Unbound between params args after → Unbound base (q ∷ params) (ByReference y ∷ args) after
+  unfolding is_bound
+  after_reference base between after q params y args o u v e = u v (not_second (v == q.var) (is_bound v params args) e) ∙ o v (not_first (v == q.var) (is_bound v params args) e)
+
   module _ (k : ℕ) (ref_ok : (ℕ → Type 0) → (ℕ → Stand) → ℕ → Param → Access → Type 0) where
     unfoldable pub ArgsWalk : (ℕ → Type 0) → (ℕ → Stand) → ℕ → List Param → List Arg → Type 0
     ArgsWalk stood tgt h [] args = Unit {0}
@@ -245,7 +274,7 @@ module _ (p : Program) (fr : Call) (x : Cells) (D : Domain) (L : Lawful x D) (ok
 
     abbrev pub RefsHold : Type 1
     RefsHold = (stood : ℕ → Type 0) (tgt : ℕ → Stand) (base : ℕ → Place) (h : ℕ) (q : Param) (y : Access) (Q : Said D) (go : (ℕ → Place) → State → Result) (rest : Walk D.Env) → ref_ok stood tgt h q y → Stab Q →
-        ((base : ℕ → Place) → Goes_on (Stage (with_stood stood q) (with_stand tgt h q y) base) Q (go base) rest) → WalkKeeps x D L anywhere rest →
+        ((after : ℕ → Place) → Others base q after → Goes_on (Stage (with_stood stood q) (with_stand tgt h q y) after) Q (go after) rest) → WalkKeeps x D L anywhere rest →
         Goes_on (Stage stood tgt base) Q (Passing p w act base q (ByReference y) go) (before D x (ir_nodes.read_kept p fr h (e.Read y I32)) rest)
 
     module _ (refs_keep : RefsKeep) (refs_hold : RefsHold) where
@@ -261,11 +290,11 @@ module _ (p : Program) (fr : Call) (x : Cells) (D : Domain) (L : Lawful x D) (ok
           (args_still params args (with_stood stood q) (with_stand tgt h q y) (h + access_indices y) a.1)
 
       pub args_follow : (params : List Param) (args : List Arg) (stood : ℕ → Type 0) (tgt : ℕ → Stand) (base : ℕ → Place) (h : ℕ) (Q : Said D) (go : (ℕ → Place) → State → Result) (rest : Walk D.Env) → ArgsWalk stood tgt h params args → Stab Q →
-          ((base : ℕ → Place) → Goes_on (Stage (end_stood stood params args) (ir_nodes.bound p fr h params args tgt) base) Q (go base) rest) → WalkKeeps x D L anywhere rest →
+          ((after : ℕ → Place) → Unbound base params args after → Goes_on (Stage (end_stood stood params args) (ir_nodes.bound p fr h params args tgt) after) Q (go after) rest) → WalkKeeps x D L anywhere rest →
           Goes_on (Stage stood tgt base) Q (AllPassing p w act base params args go) (before D x (ir_nodes.all_passed p fr k h params args) rest)
       unfolding ArgsWalk end_stood ir_nodes.all_passed ir_nodes.bound
-      args_follow [] args stood tgt base h Q go rest a sq f kept = on_same (Stage stood tgt base) Q (go base) (AllPassing p w act base [] args go) rest (λ st. pass_none p w act base args go st) (f base)
-      args_follow (q ∷ params) [] stood tgt base h Q go rest a sq f kept = on_same (Stage stood tgt base) Q (go base) (AllPassing p w act base (q ∷ params) [] go) rest (λ st. pass_rest p w act base q params go st) (f base)
+      args_follow [] args stood tgt base h Q go rest a sq f kept = on_same (Stage stood tgt base) Q (go base) (AllPassing p w act base [] args go) rest (λ st. pass_none p w act base args go st) (f base (λ v e. refl))
+      args_follow (q ∷ params) [] stood tgt base h Q go rest a sq f kept = on_same (Stage stood tgt base) Q (go base) (AllPassing p w act base (q ∷ params) [] go) rest (λ st. pass_rest p w act base q params go st) (f base (λ v e. refl))
       args_follow (q ∷ params) (ByValue at v ∷ args) stood tgt base h Q go rest a sq f kept =
           let same : h + 0 ≡ h = omega arith in
           let n = node.Assign (assign.Value (place_at (own_target p k q.var)) (num_in (layout_of p q.var)) at (lowered p fr v)) in
@@ -273,7 +302,7 @@ module _ (p : Program) (fr : Call) (x : Cells) (D : Domain) (L : Lawful x D) (ok
           (on_same (Stage stood tgt base) Q (Passing p w act base q (ByValue at v) (λ base st. AllPassing p w act base params args go st)) (AllPassing p w act base (q ∷ params) (ByValue at v ∷ args) go)
           (followed D (piece D x n) (before D x (ir_nodes.all_passed p fr k h params args) rest)) (λ st. pass_split p w act base q params (ByValue at v) args go st)
           (value_follows stood tgt base a.0.0 k q at v Q (λ base st. AllPassing p w act base params args go st) (before D x (ir_nodes.all_passed p fr k h params args) rest) a.0.1 sq
-          (args_follow params args stood tgt base h Q go rest a.1 sq f kept) (nodes_keep x D L (ir_nodes.all_passed p fr k h params args) rest (args_still params args stood tgt h a.1) kept)))
+          (args_follow params args stood tgt base h Q go rest a.1 sq (λ after u. f after (after_value base after q params at v args u)) kept) (nodes_keep x D L (ir_nodes.all_passed p fr k h params args) rest (args_still params args stood tgt h a.1) kept)))
       args_follow (q ∷ params) (ByReference y ∷ args) stood tgt base h Q go rest a sq f kept =
           let ns = ir_nodes.all_passed p fr k (h + access_indices y) params args in
           let tail = before D x ns rest in
@@ -281,11 +310,11 @@ module _ (p : Program) (fr : Call) (x : Cells) (D : Domain) (L : Lawful x D) (ok
           (on_same (Stage stood tgt base) Q (Passing p w act base q (ByReference y) (λ base st. AllPassing p w act base params args go st)) (AllPassing p w act base (q ∷ params) (ByReference y ∷ args) go)
           (before D x (ir_nodes.read_kept p fr h (e.Read y I32)) tail) (λ st. pass_split p w act base q params (ByReference y) args go st)
           (refs_hold stood tgt base h q y Q (λ base st. AllPassing p w act base params args go st) tail a.0 sq
-          (λ base. args_follow params args (with_stood stood q) (with_stand tgt h q y) base (h + access_indices y) Q go rest a.1 sq f kept)
+          (λ between o. args_follow params args (with_stood stood q) (with_stand tgt h q y) between (h + access_indices y) Q go rest a.1 sq (λ after u. f after (after_reference base between after q params y args o u)) kept)
           (nodes_keep x D L ns rest (args_still params args (with_stood stood q) (with_stand tgt h q y) (h + access_indices y) a.1) kept)))
 
   -- ---- the result
-  abbrev told_of : ℕ → Option Num → (ℕ → ℤ) → ℤ → Type 0
+  abbrev pub told_of : ℕ → Option Num → (ℕ → ℤ) → ℤ → Type 0
   told_of c None = untold x N D L
   told_of c (Some num) = in_cell x N D L c
 
@@ -385,7 +414,7 @@ module _ (p : Program) (fr : Call) (x : Cells) (D : Domain) (L : Lawful x D) (ok
       pub stands : (v : ℕ) → okay v → end_stood stood (concrete.params_of (slice_get p.funcs f)) args v
       pub destination : DestWalks (ir_nodes.kept_from p f k + all_kept args) (result_of (slice_get p.funcs f)) dest
       pub still : Still x D L (piece D x (node.Block (lowers f (ir_nodes.called_frame p fr k pos f args) (k + frame_cells p f args) l)))
-      pub body : (base : ℕ → Place) → Follows x D L G fair Names SeenAt (Within_call base) (After (ir_nodes.kept_from p f k + all_kept args) (result_of (slice_get p.funcs f))) (Within_call base)
+      pub body : (base : ℕ → Place) → Unbound (concrete.own_place p (act.path ++ pos ∷ [])) (concrete.params_of (slice_get p.funcs f)) args base → Follows x D L G fair Names SeenAt (Within_call base) (After (ir_nodes.kept_from p f k + all_kept args) (result_of (slice_get p.funcs f))) (Within_call base)
           (λ st. does f (record { path = act.path ++ pos ∷ []; base = base }) st) (piece D x (node.Block (lowers f (ir_nodes.called_frame p fr k pos f args) (k + frame_cells p f args) l)))
 
     within_stage : (base : ℕ → Place) → CallWalks → Implies x D L G fair Names SeenAt (Stage (end_stood stood params args) (ir_nodes.bound p fr (ir_nodes.kept_from p f k) params args (own_target p k)) base) (Within_call base)
@@ -417,10 +446,10 @@ module _ (p : Program) (fr : Call) (x : Cells) (D : Domain) (L : Lawful x D) (ok
           both_still x D L (ir_nodes.all_passed p fr k (ir_nodes.kept_from p f k) params args) (body_node ∷ ir_nodes.delivered p fr result_cell result_num dest)
           (args_still k ref_ok refs_keep refs_hold params args stood (own_target p k) (ir_nodes.kept_from p f k) h.arguments) (h.still, dest_still result_cell result_num dest h.destination)
 
-      body_follows : (Q : Said D) (go : State → Result) (rest : Walk D.Env) → CallWalks → Stab Q → Goes_on Caller Q go rest → WalkKeeps x D L anywhere rest → (base : ℕ → Place) →
+      body_follows : (Q : Said D) (go : State → Result) (rest : Walk D.Env) → CallWalks → Stab Q → Goes_on Caller Q go rest → WalkKeeps x D L anywhere rest → (base : ℕ → Place) → Unbound (concrete.own_place p (act.path ++ pos ∷ [])) params args base →
           Goes_on (Stage (end_stood stood params args) (ir_nodes.bound p fr (ir_nodes.kept_from p f k) params args (own_target p k)) base) Q (goes_in go base)
           (followed D (piece D x body_node) (before D x (ir_nodes.delivered p fr result_cell result_num dest) rest))
-      body_follows Q go rest h sq g kept base =
+      body_follows Q go rest h sq g kept base u =
           let S = Stage (end_stood stood params args) (ir_nodes.bound p fr (ir_nodes.kept_from p f k) params args (own_target p k)) base in
           on_same S Q (λ st. then_state (does f (record { path = act.path ++ pos ∷ []; base = base }) st) (λ st. then_state (concrete.delivered w act dest st) go)) (goes_in go base)
           (followed D (piece D x body_node) (before D x (ir_nodes.delivered p fr result_cell result_num dest) rest))
@@ -430,7 +459,7 @@ module _ (p : Program) (fr : Call) (x : Cells) (D : Domain) (L : Lawful x D) (ok
           (before D x (ir_nodes.delivered p fr result_cell result_num dest) rest)
           (λ e st b. result_said x D L G fair Names SeenAt (After result_cell result_num) (After result_cell result_num) (Within_call base) Caller ((piece D x body_node).after e)
           (does f (record { path = act.path ++ pos ∷ []; base = base }) st) (λ store result clock i s. s) (leaves_call base)
-          (h.body base e st (record { good = b.good; has = b.has; holds = within_stage base h st.store st.result st.clock e b.holds; inside = b.inside })))
+          (h.body base u e st (record { good = b.good; has = b.has; holds = within_stage base h st.store st.result st.clock e b.holds; inside = b.inside })))
           (h.still.keeps anywhere) (dest_follows result_cell result_num dest Q go rest h.destination sq g kept)
           (nodes_keep x D L (ir_nodes.delivered p fr result_cell result_num dest) rest (dest_still result_cell result_num dest h.destination) kept))
 
@@ -444,6 +473,6 @@ module _ (p : Program) (fr : Call) (x : Cells) (D : Domain) (L : Lawful x D) (ok
           subst (λ (s : Walk D.Env). Goes_on Caller Q (λ st. then_state (concrete.called p w does act pos f args dest st) go) s) (sym (before_append D x ms ns rest))
           (on_same Caller Q (AllPassing p w act base params args (goes_in go)) (λ st. then_state (concrete.called p w does act pos f args dest st) go) (before D x ms (before D x ns rest)) (λ st. call_split go st)
           (λ es st u has m i. args_follow k ref_ok refs_keep refs_hold params args stood (own_target p k) base (ir_nodes.kept_from p f k) Q (goes_in go) (before D x ns rest) h.arguments sq
-          (λ base. body_follows Q go rest h sq g kept base)
+          (λ base u. body_follows Q go rest h sq g kept base u)
           (nodes_keep x D L ns rest (h.still, dest_still result_cell result_num dest h.destination) kept) es st u has
           (any_said x D L G fair Names SeenAt (λ e. Caller st.store st.result st.clock e) (λ e. Stage stood (own_target p k) base st.store st.result st.clock e) es (λ e. enters_call h st.store st.result st.clock e) m) i))

@@ -36,5 +36,6 @@ pub mod SimpleForms
 pub mod ValueLaws
 pub mod RefLaws
 pub mod ReferenceLaws
+pub mod TypedWalks
 pub mod SoundLaws
 mod Samples

@@ -37,7 +37,7 @@ use Rattle.sa_flat.proofs.StateLaws.{Naming, with_cell, with_agrees, KeptTo, InF
 use Rattle.sa_flat.proofs.LaidLaws.{Laid}
 use Rattle.sa_flat.proofs.SimpleLaws.{InputsAlways, ReadWalks, AccessWalks}
 use Rattle.sa_flat.proofs.BodyLaws.{any_said, Implies}
-use Rattle.sa_flat.proofs.CallLaws.{AllStill, standing, Stage, Goes_on, Stab, SeenAt, on_same, Passing, with_stood, with_stand, RefsKeep, RefsHold}
+use Rattle.sa_flat.proofs.CallLaws.{AllStill, standing, Stage, Goes_on, Stab, SeenAt, on_same, Passing, with_stood, with_stand, Others, RefsKeep, RefsHold}
 use Rattle.sa_flat.proofs.RefLaws.{Stepping, Carried, Stays, StepsKept, kept_still, Telling, steps_follow, kept_further, IndexCells, carried_leads}
 
 -- ---- what goes by some kept indices doesn't go by later cells
@@ -139,9 +139,12 @@ module _ (p : Program) (fr : Call) (x : Cells) (D : Domain) (L : Lawful x D) (ok
             differ : (v w : ℕ) → (v == w) ≡ false → v ≡ w → ⊥
             differ v w i is = grind (arith, nat_tests)
 
+    others : (b : Place) (u : ℕ) → (u == q.var) ≡ false → (if u == q.var then b else base u) ≡ base u
+    others b u e = rw e refl
+
     read_hold : (a : Expr) (Q : Said D) (go : (ℕ → Place) → State → Result) (rest : Walk D.Env) → ReadWalks p ok (layout_of p q.var) a → ReadKept h a → ((v : ℕ) → stood v → AllBefore h (tgt v).rows) →
         ((v : ℕ) → ok v → AllBefore h (fr.base v).rows) → Stays p fr x D L ok N w act outer frame inputs always_in G fair Names h outer →
-        ((base : ℕ → Place) → From (Stood (with_stood p fr x D L ok N w act outer frame inputs always_in G fair Names stood q) (λ u. if u == q.var then ir_places.read_target p fr h a else tgt u) base) Q (go base) rest) →
+        ((after : ℕ → Place) → Others p fr x D L ok N w act outer frame inputs always_in G fair Names base q after → From (Stood (with_stood p fr x D L ok N w act outer frame inputs always_in G fair Names stood q) (λ u. if u == q.var then ir_places.read_target p fr h a else tgt u) after) Q (go after) rest) →
         WalkKeeps x D L anywhere rest → From (Stood stood tgt base) Q (read_passing base q a go) (before D x (read_kept p fr h a) rest)
     unfolding ReadKept read_kept read_place ir_places.read_target
     read_hold (Read' v n steps num) Q go rest r k passed caller outside f keeps =
@@ -150,7 +153,7 @@ module _ (p : Program) (fr : Call) (x : Cells) (D : Domain) (L : Lawful x D) (ok
         (before D x (kept p fr h steps) rest) (λ st. steps_pass v steps go st)
         (λ es st g has m i. steps_follow p fr x D L ok N w act outer frame inputs always_in G fair Names stood tgt base h (λ d le kept z s. frame_stays p x D L N stood (record { prefix = []; result = 0; base = tgt }) base h passed d le kept z s)
         (λ d le kept z s. (frame_stays p x D L N ok fr act.base h caller d le kept z s.0, outside d le kept z s.1)) steps h (λ at. Unit {0}) Q (λ ps st. go (λ u. if u == q.var then within (act.base v) ps else base u) st) rest (omega arith) (λ c le kept z s. tt) k
-        (λ ps es st g has m i. f (λ u. if u == q.var then within (act.base v) ps else base u) es st g has
+        (λ ps es st g has m i. f (λ u. if u == q.var then within (act.base v) ps else base u) (λ u e. others (within (act.base v) ps) u e) es st g has
         (any_said x D L G fair Names (SeenAt p fr x D L ok N w act outer frame inputs always_in G fair Names)
         (λ e. Telling p fr x D L ok N w act outer frame inputs always_in G fair Names stood tgt base (λ at. Unit {0} × Carried at h steps ps) st.store st.result st.clock e)
         (λ e. Stood (with_stood p fr x D L ok N w act outer frame inputs always_in G fair Names stood q) (λ u. if u == q.var then to else tgt u) (λ u. if u == q.var then within (act.base v) ps else base u) st.store st.result st.clock e) es
