@@ -10,7 +10,7 @@ use Rattle.sa_interval.specs.Rows.{meet_of}
 use Rattle.sa_operators.specs.Alarms.{IsAmong}
 use Rattle.sa_operators.specs.Operators.{IsIn, range_of}
 use Rattle.sa_ir.specs.declared.ir.Ends.{Ends}
-use Rattle.sa_flat.specs.declared.form.Form.{Form}
+use Rattle.sa_env.specs.declared.form.Form.{Form}
 use Rattle.sa_flat.specs.Domain.{Domain}
 use Rattle.sa_flat.specs.Forms.{form_number}
 use Rattle.sa_flat.specs.Meanings.{Operand, Meaning, Target, Cells, indices}

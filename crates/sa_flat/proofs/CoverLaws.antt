@@ -18,7 +18,7 @@ use Rattle.sa_typed.specs.WellTyped.{converts, IsLink}
 use Rattle.sa_typed.specs.declared.expr.Operator.{Operator}
 use Rattle.sa_typed.specs.declared.expr.Operator.TheVariants as o
 use Rattle.sa_operators.specs.Operators.{range_of, IsIn, conversion_alarms, operator_alarms}
-use Rattle.sa_flat.specs.declared.form.Form.{Form}
+use Rattle.sa_env.specs.declared.form.Form.{Form}
 use Rattle.sa_flat.specs.Domain.{Domain}
 use Rattle.sa_flat.specs.Forms.{negative, sum_form, difference_form, form_number}
 use Rattle.sa_flat.specs.Meanings.{Operand, Meaning, Cells, in_alive, with_both, linked, form_within, as_operand, converted_operand, number_operand, both_forms, form_in, both_spans, operation_form, at_most, negated, imposed, bound, equal, unequal, less, at_most_as, truth as truth_of, compared, plain, literal, met, operation_value, operation}

@@ -9,7 +9,7 @@ use Rattle.sa_base.specs.declared.num.Num.TheVariants.{I32}
 use Rattle.sa_interval.specs.Span.{Span, Within, IsPart}
 use Rattle.sa_interval.specs.Rows.{single, sum_of, join_of, meet_of, is_part}
 use Rattle.sa_operators.specs.Operators.{IsIn, range_of}
-use Rattle.sa_flat.specs.declared.form.Term.{Term}
+use Rattle.sa_env.specs.declared.form.Term.{Term}
 use Rattle.sa_flat.specs.Forms.{signed, term_number}
 use Rattle.sa_flat.specs.Meanings.{Cells}
 use Rattle.sa_flat.specs.Passes.{alive_then}

@@ -7,7 +7,7 @@ use Rattle.sa_base.specs.declared.num.Num.{Num}
 use Rattle.sa_interval.specs.Span.{Span, Within, IsPart}
 use Rattle.sa_interval.specs.Rows.{single}
 use Rattle.sa_operators.specs.Operators.{IsIn, range_of}
-use Rattle.sa_flat.specs.declared.form.Form.{Form}
+use Rattle.sa_env.specs.declared.form.Form.{Form}
 use Rattle.sa_flat.specs.Domain.{Domain}
 use Rattle.sa_flat.specs.Forms.{form_number}
 use Rattle.sa_flat.specs.Meanings.{Cells}

@@ -15,7 +15,7 @@ use Rattle.sa_typed.specs.declared.expr.Operator.TheVariants as o
 use Rattle.sa_typed.specs.declared.expr.Prefix.{Prefix}
 use Rattle.sa_typed.specs.declared.expr.Prefix.TheVariants as p
 use Rattle.sa_operators.specs.Operators.{range_of, negated_span}
-use Rattle.sa_flat.specs.declared.form.Form.{Form}
+use Rattle.sa_env.specs.declared.form.Form.{Form}
 use Rattle.sa_flat.specs.Domain.{Domain}
 use Rattle.sa_flat.specs.Forms.{negative, sum_form, difference_form}
 use Rattle.sa_flat.specs.Meanings.{Operand, Meaning, Cells, linked, form_within, as_operand, converted_operand, number_operand, both_forms, both_spans, operation_form, prefix_form, at_most, negated, imposed, bound, equal, unequal, truth as truth_of, compared, plain, met, operation_value, operation, prefix_value, prefix_guard, prefixed, cast}

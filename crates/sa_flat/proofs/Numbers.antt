@@ -12,8 +12,8 @@ use Rattle.sa_typed.specs.Arithmetic.{bits, is_signed, is_of, IsOf, wrapped, as_
 use Rattle.sa_typed.proofs.ArithmeticLaws.{unsigned_low, unsigned_high, is_of_to}
 use Rattle.sa_operators.specs.Operators.{range_of}
 use Rattle.sa_operators.proofs.FitLaws.{uncut_of, is_part_from, within_part}
-use Rattle.sa_flat.specs.declared.form.Form.{Form}
-use Rattle.sa_flat.specs.declared.form.Term.{Term}
+use Rattle.sa_env.specs.declared.form.Form.{Form}
+use Rattle.sa_env.specs.declared.form.Term.{Term}
 use Rattle.sa_flat.specs.Forms.{listed, terms, form_of, turned, negative, sum_form, difference_form, signed, term_number, form_number}
 use Rattle.sa_flat.proofs.Lawful.{IfAlive, IsForm}
 

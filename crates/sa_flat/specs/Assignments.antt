@@ -8,7 +8,7 @@ use Rattle.sa_operators.specs.Operators.{range_of}
 use Rattle.sa_ir.specs.declared.ir.Ends.{Ends}
 use Rattle.sa_ir.specs.declared.node.IrAssign.{IrAssign}
 use Rattle.sa_ir.specs.declared.node.IrAssign.TheVariants.{Value, Compound, Copy, Any, Items, Keep}
-use Rattle.sa_flat.specs.declared.form.Form.{Form}
+use Rattle.sa_env.specs.declared.form.Form.{Form}
 use Rattle.sa_flat.specs.Domain.{Domain}
 use Rattle.sa_flat.specs.Meanings.{Operand, Meaning, Target, Cells, in_alive, indices, index_alarms, read, read_operand, operation, cast}
 use Rattle.sa_flat.specs.Expressions.{meaning, target}

@@ -3,7 +3,7 @@
 -- the dead one. Cells are numbers, and no program stands here.
 use Rattle.std.specs.Prelude.{ℕ, ℤ, Bool, List, Option}
 use Rattle.sa_interval.specs.Span.{Span}
-use Rattle.sa_flat.specs.declared.form.Form.{Form}
+use Rattle.sa_env.specs.declared.form.Form.{Form}
 
 pub record Domain : Type 1 where
   pub Env : Type 0

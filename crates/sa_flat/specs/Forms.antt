@@ -1,8 +1,8 @@
 -- No promise of the top calls rests on this page: it is for laws beside them, for proofs and for inner functions.
 -- Linear forms: `+-x +-y + c` with at most two cells, each once (octagonal constraints: Miné 2006).
 use Rattle.std.specs.Prelude.{ℕ, ◌==◌, ℤ, pos, ◌+ℤ◌, ◌-ℤ◌, Bool, true, false, not, List, [], ◌∷◌, ◌++◌, if◌then◌else◌, Option, Some, None}
-use Rattle.sa_flat.specs.declared.form.Form.{Form}
-use Rattle.sa_flat.specs.declared.form.Term.{Term}
+use Rattle.sa_env.specs.declared.form.Form.{Form}
+use Rattle.sa_env.specs.declared.form.Term.{Term}
 
 abbrev pub constant : ℤ → Form
 constant c = record { first = None; second = None; c = c }

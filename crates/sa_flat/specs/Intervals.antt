@@ -8,8 +8,8 @@ use Rattle.sa_interval.specs.Span.{Span, Within}
 use Rattle.sa_interval.specs.Rows.{single, sum_of, join_of, meet_of, is_part}
 use Rattle.sa_interval.specs.Widening.{widening_of}
 use Rattle.sa_operators.specs.Operators.{range_of}
-use Rattle.sa_flat.specs.declared.form.Form.{Form}
-use Rattle.sa_flat.specs.declared.form.Term.{Term}
+use Rattle.sa_env.specs.declared.form.Form.{Form}
+use Rattle.sa_env.specs.declared.form.Term.{Term}
 use Rattle.sa_flat.specs.Domain.{Domain}
 use Rattle.sa_flat.specs.Passes.{alive_then}
 

@@ -16,7 +16,7 @@ use Rattle.sa_typed.specs.declared.expr.Operator.TheVariants as o
 use Rattle.sa_typed.specs.declared.expr.Prefix.{Prefix}
 use Rattle.sa_typed.specs.declared.expr.Prefix.TheVariants as p
 use Rattle.sa_operators.specs.Operators.{range_of, as_span, converted_span, conversion_alarms, operator_span, operator_alarms, prefix_span, prefix_alarms, negated_span, may_be, alarm_if}
-use Rattle.sa_flat.specs.declared.form.Form.{Form}
+use Rattle.sa_env.specs.declared.form.Form.{Form}
 use Rattle.sa_flat.specs.Domain.{Domain}
 use Rattle.sa_flat.specs.Forms.{constant, of_cell, negative, sum_form, difference_form}
 use Rattle.sa_flat.specs.Passes.{alive_then}

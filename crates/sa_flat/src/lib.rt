@@ -6,6 +6,4 @@
 //! Nothing in the walk looks into an environment but by the domain's operations.
 #![tactic(auto)]
 
-mod form;
-
-pub use form::{Form, Term};
+pub use sa_env::{Form, Term};
