@@ -414,46 +414,19 @@ fn operators_before_operands(rt: HostRuntime) {
     }
 }
 
-fn literal(value: u64) -> Expr
-    ensures { result ≡ expr.Number value I32 }
-{
-    Expr::Number(value, Num::I32)
-}
-
-fn boxed(alloc: Global, value: u64) -> Result<Boxed<Expr>, OutOfMemory>
-    ensures { IfOk result (λ e. e ≡ expr.Number value I32) }
-{
-    Boxed::new(alloc, literal(value))
-}
-
-fn one_link(alloc: Global, link: Link) -> Result<Items<Link>, OutOfMemory>
-    ensures { IfOk result (λ links. links ≡ link ∷ []) }
-{
-    let mut links = Items::new(alloc);
-    links.push(link)?;
-    Ok(links)
-}
-
-fn one_operand(alloc: Global, value: u64) -> Result<Items<Expr>, OutOfMemory>
-    ensures { IfOk result (λ rest. rest ≡ expr.Number value I32 ∷ []) }
-{
-    let mut rest = Items::new(alloc);
-    rest.push(literal(value))?;
-    Ok(rest)
-}
-
 /// An operator between two literals.
 fn pair(alloc: Global, op: Operator, x: u64, y: u64) -> Result<Expr, OutOfMemory>
     ensures { IfOk result (λ e. e ≡ expr.Chain (expr.Number x I32) (record { op = op; pos = record { line = 1; col = 1 }; num = I32; operand = expr.Number y I32 } ∷ [])) }
 {
-    let first = boxed(alloc, x)?;
-    let link = Link {
+    let mut links = Vec::new(alloc);
+    links.push(Link {
         op,
         pos: AT,
         num: Num::I32,
-        operand: literal(y),
-    };
-    Ok(Expr::Chain(first, one_link(alloc, link)?))
+        operand: Expr::Number(y, Num::I32),
+    })?;
+    let first = Boxed::new(alloc, Expr::Number(x, Num::I32))?;
+    Ok(Expr::Chain(first, Items::from_vec(links)))
 }
 
 /// The element of an array of `n` that an operator between two literals names; None where one of them is no `int`.
@@ -476,25 +449,30 @@ fn element(
 fn both(alloc: Global, x: u64, y: u64) -> Result<Expr, OutOfMemory>
     ensures { IfOk result (λ e. e ≡ expr.And (expr.Number x I32) (expr.Number y I32 ∷ [])) }
 {
-    let first = boxed(alloc, x)?;
-    Ok(Expr::And(first, one_operand(alloc, y)?))
+    let mut rest = Vec::new(alloc);
+    rest.push(Expr::Number(y, Num::I32))?;
+    let first = Boxed::new(alloc, Expr::Number(x, Num::I32))?;
+    Ok(Expr::And(first, Items::from_vec(rest)))
 }
 
 /// `||` between two literals.
 fn either(alloc: Global, x: u64, y: u64) -> Result<Expr, OutOfMemory>
     ensures { IfOk result (λ e. e ≡ expr.Or (expr.Number x I32) (expr.Number y I32 ∷ [])) }
 {
-    let first = boxed(alloc, x)?;
-    Ok(Expr::Or(first, one_operand(alloc, y)?))
+    let mut rest = Vec::new(alloc);
+    rest.push(Expr::Number(y, Num::I32))?;
+    let first = Boxed::new(alloc, Expr::Number(x, Num::I32))?;
+    Ok(Expr::Or(first, Items::from_vec(rest)))
 }
 
 /// `x ? y : 2`.
 fn choice(alloc: Global, x: u64, y: u64) -> Result<Expr, OutOfMemory>
     ensures { IfOk result (λ e. e ≡ expr.Choice (expr.Number x I32) (expr.Number y I32) (expr.Number 2 I32) I32) }
 {
-    let test = boxed(alloc, x)?;
-    let first = boxed(alloc, y)?;
-    Ok(Expr::Choice(test, first, boxed(alloc, 2)?, Num::I32))
+    let test = Boxed::new(alloc, Expr::Number(x, Num::I32))?;
+    let first = Boxed::new(alloc, Expr::Number(y, Num::I32))?;
+    let second = Boxed::new(alloc, Expr::Number(2, Num::I32))?;
+    Ok(Expr::Choice(test, first, second, Num::I32))
 }
 
 /// The elements of an array of `n` that `x && y`, `x || y` and `x ? y : 2` name; None where a literal is no `int`.
