@@ -37,5 +37,8 @@ pub mod ValueLaws
 pub mod RefLaws
 pub mod ReferenceLaws
 pub mod TypedWalks
+pub mod Lays
+pub mod ParamLaws
+pub mod ArgLaws
 pub mod SoundLaws
 mod Samples
