@@ -76,9 +76,11 @@ module _ (p : Program) (x : Cells) (D : Domain) (L : Lawful x D) where
     roam_further : (l m : Layout) (rs new : List Kept) (c d : ℕ) → RowsRoam p fr x D L ok l rs c → ((c : ℕ) (a : Place) → Laid (λ num c a. IsOfType x D L num c) l c a → RowsRoam p fr x D L ok m new (c + d)) →
         RowsRoam p fr x D L ok m (rs ++ new) (c + d)
     roam_further l m [] new c d h k = k c h.0 h.1
-    roam_further l m (r ∷ rs) new c d h k =
-        (h.0, λ i less. let same : (c + i * r.stride) + d ≡ (c + d) + i * r.stride = swapped c d (i * r.stride) in
-        subst (λ (e : ℕ). RowsRoam p fr x D L ok m (rs ++ new) e) same (roam_further l m rs new (c + i * r.stride) d (h.1 i less) k))
+    roam_further l m (r ∷ rs) new c d h k = (
+      h.0,
+      λ i less. let same : (c + i * r.stride) + d ≡ (c + d) + i * r.stride = swapped c d (i * r.stride) in
+          subst (λ (e : ℕ). RowsRoam p fr x D L ok m (rs ++ new) e) same (roam_further l m rs new (c + i * r.stride) d (h.1 i less) k),
+    )
       where
         swapped : (c d e : ℕ) → (c + e) + d ≡ (c + d) + e
         swapped c d e = omega arith
@@ -112,10 +114,13 @@ module _ (p : Program) (x : Cells) (D : Domain) (L : Lawful x D) where
         step_leads l m (At' q n j (more_of-Expr b end_of-Expr)) rest t (λ u f t.
         row_step l u q n j b f (λ is.
         subst (λ (l : Layout). Laid (λ num c a. IsOfType x D L num c) l c a → RowsRoam p fr x D L ok m (kept_rows l h (more_of-Step (At' q n j (more_of-Expr b end_of-Expr)) rest)) (c + fields_cells l (more_of-Step (At' q n j (more_of-Expr b end_of-Expr)) rest))) (sym is)
-        (λ o. (k.0, λ i less. let stride = stride_of (row n u) in
-        let same : (c + i * stride) + fields_cells u rest ≡ (c + fields_cells u rest) + i * stride = omega arith in
-        subst (λ (c : ℕ). RowsRoam p fr x D L ok m (kept_rows u (h + 1) rest) c) same
-        (steps_roam rest u m (h + 1) (c + i * stride) (within a (part.At i ∷ [])) k.1 t (laid_item n u c i a o less)))) o))
+        (λ o. (
+          k.0,
+          λ i less. let stride = stride_of (row n u) in
+              let same : (c + i * stride) + fields_cells u rest ≡ (c + fields_cells u rest) + i * stride = omega arith in
+              subst (λ (c : ℕ). RowsRoam p fr x D L ok m (kept_rows u (h + 1) rest) c) same
+              (steps_roam rest u m (h + 1) (c + i * stride) (within a (part.At i ∷ [])) k.1 t (laid_item n u c i a o less)),
+        )) o))
     steps_roam (more_of-Step (Field g) rest) l m h c a k t o =
         step_leads l m (Field g) rest t (λ u f t.
         field_step l u g f (λ ls is v.

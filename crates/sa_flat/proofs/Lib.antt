@@ -40,5 +40,7 @@ pub mod TypedWalks
 pub mod Lays
 pub mod ParamLaws
 pub mod ArgLaws
+pub mod LocalLaws
+pub mod Bodies
 pub mod SoundLaws
 mod Samples

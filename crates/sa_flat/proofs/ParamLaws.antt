@@ -173,7 +173,7 @@ module _ (p : Program) (typed : IsTypedProgram p) where
       clash : RefersAt q.var func.params → ⊥
       clash a =
           let one : a.index ≡ i = (typed.funcs f func e).distinct a.index i q.var (subst (λ (v : ℕ). slice_get (map (λ q. q.var) func.params) a.index ≡ Some v) a.var (map_at (λ (q : Param). q.var) func.params a.index a.param a.at))
-              (map_at (λ (q : Param). q.var) func.params i q k) in
+          (map_at (λ (q : Param). q.var) func.params i q k) in
           let same : Some a.param ≡ Some q = sym a.at ∙ (ap (λ (i : ℕ). slice_get func.params i) one ∙ k) in
           let is : a.param ≡ q = cc in
           no_both q.reference (subst (λ (q : Param). q.reference ≡ true) is a.reference) r

@@ -51,9 +51,10 @@ module _ (p : Program) (f : ℕ) where
     walks (Or' n (more_of-Expr a end_of-Expr) m rest) t q v =
         (walks a t.0 q.0 (left_named (variables_in a) (variables_in_all rest) v), some_walk rest t.1 q.1 (right_named (variables_in a) (variables_in_all rest) v))
     walks (Choice' n (more_of-Expr a end_of-Expr) m (more_of-Expr b end_of-Expr) l (more_of-Expr c end_of-Expr) num) t q v =
-        let w = right_named (variables_in a) (variables_in b ++ variables_in c) v in
-        (walks a t.0 q.0 (left_named (variables_in a) (variables_in b ++ variables_in c) v),
-        ((walks b t.1.0.0 q.1.0 (left_named (variables_in b) (variables_in c) w), t.1.0.1), (walks c t.1.1.0 q.1.1 (right_named (variables_in b) (variables_in c) w), t.1.1.1)))
+        let w = right_named (variables_in a) (variables_in b ++ variables_in c) v in (
+          walks a t.0 q.0 (left_named (variables_in a) (variables_in b ++ variables_in c) v),
+          ((walks b t.1.0.0 q.1.0 (left_named (variables_in b) (variables_in c) w), t.1.0.1), (walks c t.1.1.0 q.1.1 (right_named (variables_in b) (variables_in c) w), t.1.1.1)),
+        )
 
     some_walk : {n : _} (r : Row_of-Expr n) → AreSomeTyped p r → ArePromoted r → AreNamed p f (variables_in_all r) → SomeWalk p (named p f) r
     some_walk end_of-Expr t q v = absurd t
