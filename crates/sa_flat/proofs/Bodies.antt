@@ -22,6 +22,7 @@ use Rattle.sa_typed.specs.Frames as frames
 use Rattle.sa_typed.specs.TypedPrograms.{IsTypedProgram, IsSimple, IsStep, IsHead, IsCall, IsDeclared, IsOwn, IsDestination, AreArguments, IsLabel, IsStatement, AreStatements, AreGroups, IsBlock, IsBody, IsMainOr, IsParameter, is_parameter, Site, calls_in, calls_in_all, calls_in_groups, calls_of, all_labels}
 use Rattle.sa_typed.specs.TypedPrograms as typing
 use Rattle.sa_typed.specs.declared.expr.Expr.{Expr}
+use Rattle.sa_typed.specs.declared.expr.Access.{Access}
 use Rattle.sa_typed.specs.declared.stmt.Arg.{Arg}
 use Rattle.sa_typed.specs.declared.stmt.Arg.TheVariants.{Value as ByValue, Object as ByReference}
 use Rattle.sa_typed.specs.declared.stmt.Destination.{Destination}
@@ -72,7 +73,7 @@ use Rattle.sa_flat.proofs.BodyLaws.{Implies, result_said, ReturnWalks, return_bl
 use Rattle.sa_flat.proofs.CallLaws.{nodes_still, nodes_moving, CallWalks, Unbound, is_bound, told_of, DestWalks, call_still, call_follows}
 use Rattle.sa_flat.proofs.ReferenceLaws.{AllBefore, frame_stays, RefWalks, refs_keep, refs_hold}
 use Rattle.sa_flat.proofs.TypedWalks.{all_left, all_right, named, expression_walks, place_walks}
-use Rattle.sa_flat.proofs.ParamLaws.{no_both, same_number, or_left, or_right, own_named, reference_of, reference_is, value_is, declared_is, or_cases}
+use Rattle.sa_flat.proofs.ParamLaws.{no_both, all_at, same_number, or_left, or_right, own_named, reference_of, reference_is, value_is, declared_is, or_cases}
 use Rattle.sa_flat.proofs.ArgLaws.{before_more, roam_any, ParamOk, Passed, Ended, args_walk, end_of}
 use Rattle.sa_flat.proofs.Lays.{IsHidden, IsCellOf, Owned, CallAt, StmtLays, AllLay, GroupsLay, BodyLays}
 use Rattle.sa_flat.proofs.LocalLaws.{any_keeps, any_leaves, items_keep, items_leave}
@@ -240,7 +241,7 @@ module _ (p : Program) (typed : IsTypedProgram p) (x : Cells) (D : Domain) (L : 
       abbrev pub Law : Simple → Type 0
       Law i = OneLaw f fr act outer s.fits i
 
-      one_law : (i : Simple) → IsSimple p f i → OneLaw f fr act outer s.fits i
+      pub one_law : (i : Simple) → IsSimple p f i → OneLaw f fr act outer s.fits i
       one_law (Declare v begins.Any) h = (
         any_keeps p fr x D L ok N w act.base outer s.fits inputs always v (declared_own v h.0),
         λ store result clock kept stands outside env tape g n. any_leaves p fr x D L ok N w act.base outer s.fits inputs always v (declared_own v h.0) store clock kept stands outside result env tape g n,
@@ -265,3 +266,150 @@ module _ (p : Program) (typed : IsTypedProgram p) (x : Cells) (D : Domain) (L : 
             (place_walks p f (leaf num) b h.0.place) (expression_walks p f a h.1.0) h.1.1,
       )
       one_law (Copy c b q d) h = copies f fr act outer first next s c b q d h
+
+      -- ---- calls
+      abbrev pub Ref : (ℕ → Type 0) → (ℕ → Stand) → ℕ → Param → Access → Type 0
+      Ref = RefWalks p fr x D L (named p f) N w act outer s.fits inputs always G fair Names
+
+      -- what stands before arguments are passed: all that the function may name but its references
+      abbrev pub stood_at : ℕ → ℕ → Type 0
+      stood_at g v = named p g v × (frames.is_reference p v ≡ false)
+
+      abbrev pub CallOk : ℕ → ℕ → Pos → ℕ → List Arg → Option Destination → Type 0
+      CallOk k l q g args dest = CallWalks p fr x D L (named p f) N w act outer s.fits inputs always G fair Names (bodies_of p w depth) (body_nodes p depth) k l q g args dest (stood_at g) (named p g) Ref
+
+      module _ (k l : ℕ) (q : Pos) (g : ℕ) (args : List Arg) (dest : Option Destination) (func : Func) (le : next ≤ k) (found : slice_get p.funcs g ≡ Some func) (arguments : AreArguments p f func.params args) (goes : IsDestination p f func.result dest)
+          (at : CallAt p x D L N Names g (act.path ++ q ∷ []) k args) (lays : BodyLays p x D L N Names depth g (act.path ++ q ∷ []) (k + frame_cells p g args) l) (low : IsLow g) where
+        abbrev params : List Param
+        params = params_of (slice_get p.funcs g)
+
+        params_is : params_of (slice_get p.funcs g) ≡ func.params
+        params_is = ap (λ (o : Option Func). params_of o) found
+
+        result_is : result_of (slice_get p.funcs g) ≡ func.result
+        result_is = ap (λ (o : Option Func). result_of o) found
+
+        caller : (v : ℕ) → named p f v → AllBefore k (fr.base v).rows
+        caller v o = before_more next k (fr.base v).rows le (s.before v o)
+
+        outside : (d : ℕ) → k ≤ d → (kept : ℕ → ℤ) (z : ℤ) → outer kept → outer (with_cell x N d z kept)
+        outside d up kept z o = let later = s.later in s.outside d (omega (arith, le, up, later)) kept z o
+
+        params_ok : AllByRecursion (ParamOk p g) func.params
+        params_ok =
+            all_from (ParamOk p g) func.params
+            (λ i q e. (all_at (λ q. IsParameter p g q) func.params i q (typed.funcs g func found).params e, ((λ r. value_is p typed g func i q found e r), (λ r. reference_is p typed g func i q found e r))))
+
+        own_laid : (v : ℕ) → named p g v → frames.is_reference p v ≡ false → Laid (λ num c a. IsOfType x D L num c) (layout_of p v) (own_target p k v).first (own_place p (act.path ++ q ∷ []) v)
+        own_laid v o free = laid_is (IsCellOf x D L N) (λ num c a. IsOfType x D L num c) (layout_of p v) (own_target p k v).first (own_place p (act.path ++ q ∷ []) v) (λ num c a h. h.1) (at.objects v o free)
+
+        begins_passed : Passed p fr x D L N w act outer f s.fits inputs always G fair Names k caller outside g (stood_at g) (own_target p k) (kept_from p g k)
+        unfolding own_target
+        begins_passed = record {
+          fits = λ v o. (own_place p (act.path ++ q ∷ []) v, own_laid v o.0 o.1);
+          intact = λ v free. refl;
+          before = λ v o. tt;
+          own = λ v o free. (o, free);
+        }
+
+        ended : Ended p fr x D L N w act outer f s.fits inputs always G fair Names k caller outside g (stood_at g) (own_target p k) (kept_from p g k) (params_of (slice_get p.funcs g)) args
+        ended =
+            args_walk p fr x D L N w act outer f s.fits inputs always G fair Names k caller outside g (params_of (slice_get p.funcs g)) args (stood_at g) (own_target p k) (kept_from p g k) (omega arith)
+            (subst (λ (qs : List Param). AllByRecursion (ParamOk p g) qs) (sym params_is) params_ok) (subst (λ (qs : List Param). AreArguments p f qs args) (sym params_is) arguments) at.indices begins_passed
+
+        -- all that the function may name stands where its body begins
+        all_stand : (v : ℕ) → named p g v → end_of p fr x D L N w act outer f s.fits inputs always G fair Names k caller outside g (stood_at g) (params_of (slice_get p.funcs g)) args v
+        all_stand v o =
+            elim (frames.is_reference p v) as (λ b. frames.is_reference p v ≡ b → end_of p fr x D L N w act outer f s.fits inputs always G fair Names k caller outside g (stood_at g) (params_of (slice_get p.funcs g)) args v) [
+              | true ↦ λ e. ended.refs v (subst (λ (qs : List Param). refers v qs ≡ true) (sym params_is) (reference_of p typed v g func found o e))
+              | false ↦ λ e. ended.stays v (o, e)
+            ] refl
+
+        abbrev around : (ℕ → ℤ) → Type 0
+        around kept = InFrame x N D L p (named p f) fr act.base kept × outer kept
+
+        inner_fits : FrameFits p (called_frame p fr k q g args) x D L (named p g)
+        unfolding called_frame
+        inner_fits v o =
+            roam_any p x D L (record { prefix = []; result = 0; base = ir_nodes.bound p fr (kept_from p g k) (params_of (slice_get p.funcs g)) args (own_target p k) }) (called_frame p fr k q g args)
+            (end_of p fr x D L N w act outer f s.fits inputs always G fair Names k caller outside g (stood_at g) (params_of (slice_get p.funcs g)) args) (named p g) (layout_of p v)
+            (ir_nodes.bound p fr (kept_from p g k) (params_of (slice_get p.funcs g)) args (own_target p k) v).rows (ir_nodes.bound p fr (kept_from p g k) (params_of (slice_get p.funcs g)) args (own_target p k) v).first (ended.fits v (all_stand v o))
+
+        inner_before : (v : ℕ) → named p g v → AllBefore (k + frame_cells p g args) ((called_frame p fr k q g args).base v).rows
+        unfolding called_frame frame_cells
+        inner_before v o =
+            before_more (kept_from p g k + all_kept args) (k + frame_cells p g args) (ir_nodes.bound p fr (kept_from p g k) (params_of (slice_get p.funcs g)) args (own_target p k) v).rows (omega arith) (ended.before v (all_stand v o))
+
+        inner_result : (num : Num) → result_of (slice_get p.funcs g) ≡ Some num → IsHidden x D L N num (called_frame p fr k q g args).result × (k ≤ (called_frame p fr k q g args).result)
+        unfolding called_frame
+        inner_result num e = (at.result num e, omega arith)
+
+        inner_alone : (base : ℕ → Place) → ((v : ℕ) → is_bound v (params_of (slice_get p.funcs g)) args ≡ false → base v ≡ own_place p (act.path ++ q ∷ []) v) → (v : ℕ) → IsDeclared p g v →
+            StandsAlone (called_frame p fr k q g args) (record { path = act.path ++ q ∷ []; base = base }) k v
+        unfolding called_frame
+        inner_alone base u v d =
+            let free = unbound v (params_of (slice_get p.funcs g)) args d.parameter in
+            record {
+              stand = bound_other p fr v (params_of (slice_get p.funcs g)) args (kept_from p g k) (own_target p k) free;
+              object = u v free;
+              owned = at.owned v d.own (declared_is p typed g v func found d.own (subst (λ (qs : List Param). is_parameter v qs ≡ false) params_is d.parameter));
+            }
+
+        inner_stands : (base : ℕ → Place) → ((v : ℕ) → is_bound v (params_of (slice_get p.funcs g)) args ≡ false → base v ≡ own_place p (act.path ++ q ∷ []) v) →
+            Stands g (called_frame p fr k q g args) (record { path = act.path ++ q ∷ []; base = base }) (λ kept. InFrame x N D L p (named p f) fr act.base kept × outer kept) k (k + frame_cells p g args)
+        inner_stands base u = record {
+          fits = inner_fits;
+          before = inner_before;
+          outside = λ d up kept z h. (frame_stays p x D L N (named p f) fr act.base k caller d up kept z h.0, outside d up kept z h.1);
+          later = omega arith;
+          locals = inner_alone base u;
+          result = inner_result;
+        }
+
+        inner_ok : (base : ℕ → Place) → ((v : ℕ) → is_bound v (params_of (slice_get p.funcs g)) args ≡ false → base v ≡ own_place p (act.path ++ q ∷ []) v) →
+            BodyOk depth g (called_frame p fr k q g args) (record { path = act.path ++ q ∷ []; base = base }) (λ kept. InFrame x N D L p (named p f) fr act.base kept × outer kept) (k + frame_cells p g args) l
+        inner_ok base u =
+            ih g func found low (called_frame p fr k q g args) (record { path = act.path ++ q ∷ []; base = base }) (λ kept. InFrame x N D L p (named p f) fr act.base kept × outer kept) k (k + frame_cells p g args) l (inner_stands base u) lays
+
+        -- what is told of the result is the same, whichever call tells it
+        told_same : (c : ℕ) (o : Option Num) (kept : ℕ → ℤ) (z : ℤ) → told c o kept z → told_of p fr x D L (named p f) N w act outer s.fits inputs always G fair Names c o kept z
+        told_same c None kept z h = h
+        told_same c (Some num) kept z h = h
+
+        dest_walks : (o : Option Num) (d : Option Destination) → ((num : Num) → o ≡ Some num → IsHidden x D L N num (kept_from p g k + all_kept args)) → IsDestination p f o d →
+            DestWalks p fr x D L (named p f) N w act outer s.fits inputs always G fair Names (kept_from p g k + all_kept args) o d
+        dest_walks o None hid h = tt
+        dest_walks None (Some d) hid h = absurd h
+        dest_walks (Some num) (Some d) hid h = (place_walks p f (leaf d.num) d.place h.place, hid num refl)
+
+        enters : (kept : ℕ → ℤ) → InFrame x N D L p (named p f) fr act.base kept × outer kept → InFrame x N D L p (stood_at g) (record { prefix = []; result = 0; base = own_target p k }) (own_place p (act.path ++ q ∷ [])) kept
+        unfolding own_target
+        enters kept h v o = laid_is (IsCellOf x D L N) (λ num c a. N.names c a) (layout_of p v) (own_target p k v).first (own_place p (act.path ++ q ∷ []) v) (λ num c a h. h.0) (at.objects v o.0 o.1)
+
+        body_said : (base : ℕ → Place) → ((v : ℕ) → is_bound v (params_of (slice_get p.funcs g)) args ≡ false → base v ≡ own_place p (act.path ++ q ∷ []) v) →
+            Follows x D L G fair Names (AtVisit x N D L) (InCall x N D L p (named p g) (λ kept. InFrame x N D L p (named p f) fr act.base kept × outer kept) (called_frame p fr k q g args) base)
+            (Returned x N D L (λ kept. InFrame x N D L p (named p f) fr act.base kept × outer kept)
+            (told_of p fr x D L (named p f) N w act outer s.fits inputs always G fair Names (kept_from p g k + all_kept args) (result_of (slice_get p.funcs g))))
+            (InCall x N D L p (named p g) (λ kept. InFrame x N D L p (named p f) fr act.base kept × outer kept) (called_frame p fr k q g args) base) (λ st. bodies_of p w depth g (record { path = act.path ++ q ∷ []; base = base }) st)
+            (piece D x (node.Block (body_nodes p depth g (called_frame p fr k q g args) (k + frame_cells p g args) l)))
+        unfolding called_frame
+        body_said base u e st b =
+            result_said x D L G fair Names (AtVisit x N D L)
+            (Returned x N D L (λ kept. InFrame x N D L p (named p f) fr act.base kept × outer kept) (told (kept_from p g k + all_kept args) (result_of (slice_get p.funcs g))))
+            (Returned x N D L (λ kept. InFrame x N D L p (named p f) fr act.base kept × outer kept)
+            (told_of p fr x D L (named p f) N w act outer s.fits inputs always G fair Names (kept_from p g k + all_kept args) (result_of (slice_get p.funcs g))))
+            (InCall x N D L p (named p g) (λ kept. InFrame x N D L p (named p f) fr act.base kept × outer kept) (called_frame p fr k q g args) base)
+            (InCall x N D L p (named p g) (λ kept. InFrame x N D L p (named p f) fr act.base kept × outer kept) (called_frame p fr k q g args) base)
+            ((piece D x (node.Block (body_nodes p depth g (called_frame p fr k q g args) (k + frame_cells p g args) l))).after e) (bodies_of p w depth g (record { path = act.path ++ q ∷ []; base = base }) st)
+            (λ store result clock e h. record { kept = h.kept; outside = h.outside; is_result = told_same (kept_from p g k + all_kept args) (result_of (slice_get p.funcs g)) h.kept result h.is_result; holds = h.holds })
+            (λ store result clock e h. h) ((inner_ok base u).follows e st b)
+
+        pub call_ok : CallOk k l q g args dest
+        call_ok = record {
+          arguments = ended.walk;
+          enters = enters;
+          stands = all_stand;
+          destination = dest_walks (result_of (slice_get p.funcs g)) dest at.result (subst (λ (o : Option Num). IsDestination p f o dest) (sym result_is) goes);
+          still = (inner_ok (own_place p (act.path ++ q ∷ [])) (λ v e. refl)).still;
+          body = body_said;
+        }

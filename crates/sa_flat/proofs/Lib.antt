@@ -42,5 +42,6 @@ pub mod ParamLaws
 pub mod ArgLaws
 pub mod LocalLaws
 pub mod Bodies
+pub mod BodyWalks
 pub mod SoundLaws
 mod Samples
