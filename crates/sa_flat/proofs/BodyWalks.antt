@@ -45,14 +45,14 @@ use Rattle.sa_flat.proofs.Lays.{IsHidden, CallAt, StmtLays, AllLay, GroupsLay, B
 use Rattle.sa_flat.proofs.Bodies.{all_is, labels_typed, InputsIn, InputsNow, Stands, told, BodiesHold, OneLaw, CopiesHold, none_hold, one_law, CallOk, stood_at, call_ok}
 
 -- no `return` stands in a body without a result
-no_return : (p : Program) (f : ℕ) (s : Stmt) → typing.IsReturn p f None s → ⊥
+pub no_return : (p : Program) (f : ℕ) (s : Stmt) → typing.IsReturn p f None s → ⊥
 no_return p f (Stmt.Return q num a) h = none_some h.0
   where
     none_some : None ≡ Some num → ⊥
     none_some e = cc
 no_return p f _ h = h
 
-empty_row : {n : _} (r : Row_of-Stmt n) → typing.IsEmpty r → IsEmpty r
+pub empty_row : {n : _} (r : Row_of-Stmt n) → typing.IsEmpty r → IsEmpty r
 empty_row end_of-Stmt h = tt
 empty_row (more_of-Stmt s rest) h = absurd h
 
@@ -197,7 +197,7 @@ module _ (p : Program) (typed : IsTypedProgram p) (x : Cells) (D : Domain) (L : 
     abbrev Returns : {n : _} → Num → ℕ → ℕ → Row_of-Stmt n → Type 0
     Returns to k l r = ReturnWalks p fr x D L (named p f) N w act depth (bodies_of p w depth) (body_nodes p depth) SimpleOk CallsOk Names s.fits inputs simples_keep calls_keep to k l r
 
-    is_return : (to : Num) (t : Stmt) → typing.IsReturn p f (Some to) t → IsReturn p fr x D L (named p f) N w act depth (bodies_of p w depth) (body_nodes p depth) SimpleOk CallsOk Names s.fits inputs simples_keep calls_keep to t
+    pub is_return : (to : Num) (t : Stmt) → typing.IsReturn p f (Some to) t → IsReturn p fr x D L (named p f) N w act depth (bodies_of p w depth) (body_nodes p depth) SimpleOk CallsOk Names s.fits inputs simples_keep calls_keep to t
     is_return to (Stmt.Return q num a) h = (expression_walks p f a h.1, some_is h.0)
       where
         some_is : Some to ≡ Some num → num ≡ to

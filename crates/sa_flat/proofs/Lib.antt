@@ -43,5 +43,6 @@ pub mod ArgLaws
 pub mod LocalLaws
 pub mod Bodies
 pub mod BodyWalks
+pub mod MainBodies
 pub mod SoundLaws
 mod Samples
