@@ -185,14 +185,14 @@ module _ (p : Program) (typed : IsTypedProgram p) (x : Cells) (D : Domain) (L : 
     abbrev SeenAt : Visit → D.Env → Type 0
     SeenAt = AtVisit x N D L
 
-    -- a body, where calls inside calls go so deep
+    -- a body; an execution goes one call deeper than what is lowered, which no rank allows
     pub record BodyOk (depth f : ℕ) (fr : Call) (act : Activation) (outer : (ℕ → ℤ) → Type 0) (k l : ℕ) : Type 0 where
       pub still : Still x D L (piece D x (node.Block (body_nodes p depth f fr k l)))
       pub follows : Follows x D L G fair Names (AtVisit x N D L) (InCall x N D L p (named p f) outer fr act.base) (Returned x N D L outer (told fr.result (result_of (slice_get p.funcs f)))) (InCall x N D L p (named p f) outer fr act.base)
-          (λ st. bodies_of p w depth f act st) (piece D x (node.Block (body_nodes p depth f fr k l)))
+          (λ st. bodies_of p w (suc depth) f act st) (piece D x (node.Block (body_nodes p depth f fr k l)))
 
     abbrev pub BodiesHold : ℕ → Type 1
-    BodiesHold depth = (g : ℕ) (func : Func) → slice_get p.funcs g ≡ Some func → IsLow g → (fr : Call) (act : Activation) (outer : (ℕ → ℤ) → Type 0) (first next l : ℕ) → Stands g fr act outer first next → BodyLays p x D L N Names depth g act.path next l →
+    BodiesHold depth = (g : ℕ) (func : Func) → slice_get p.funcs g ≡ Some func → IsLow g → typed.ranks.0 g < depth → (fr : Call) (act : Activation) (outer : (ℕ → ℤ) → Type 0) (first next l : ℕ) → Stands g fr act outer first next → BodyLays p x D L N Names depth g act.path next l →
         BodyOk depth g fr act outer next l
 
     -- what a simple statement keeps and leaves in a call
@@ -206,13 +206,9 @@ module _ (p : Program) (typed : IsTypedProgram p) (x : Cells) (D : Domain) (L : 
     abbrev pub CopiesHold : Type 1
     CopiesHold = (f : ℕ) (fr : Call) (act : Activation) (outer : (ℕ → ℤ) → Type 0) (first next : ℕ) (s : Stands f fr act outer first next) (c : ℕ) (b : _) (q : Pos) (d : _) → IsSimple p f (Copy c b q d) → OneLaw f fr act outer s.fits (Copy c b q d)
 
-    -- ---- no call at all
+    -- ---- no function has so low a rank
     pub none_hold : BodiesHold zero
-    unfolding body_nodes bodies_of
-    none_hold g func e low fr act outer first next l s lays = record {
-      still = subst (λ (s : Piece D.Env). Still x D L s) (sym (block_piece D x [])) (block_still x D L (done D) (done_still x D L));
-      follows = λ e st b. record { inside = b.inside; covered = tt };
-    }
+    none_hold g func e low deep fr act outer first next l s lays = absurd (omega (arith, deep))
 
     module _ (copies : CopiesHold) (f : ℕ) (fr : Call) (act : Activation) (outer : (ℕ → ℤ) → Type 0) (first next : ℕ) (s : Stands f fr act outer first next) (depth : ℕ) (ih : BodiesHold depth) where
       abbrev ok : ℕ → Type 0
@@ -276,10 +272,10 @@ module _ (p : Program) (typed : IsTypedProgram p) (x : Cells) (D : Domain) (L : 
       stood_at g v = named p g v × (frames.is_reference p v ≡ false)
 
       abbrev pub CallOk : ℕ → ℕ → Pos → ℕ → List Arg → Option Destination → Type 0
-      CallOk k l q g args dest = CallWalks p fr x D L (named p f) N w act outer s.fits inputs always G fair Names (bodies_of p w depth) (body_nodes p depth) k l q g args dest (stood_at g) (named p g) Ref
+      CallOk k l q g args dest = CallWalks p fr x D L (named p f) N w act outer s.fits inputs always G fair Names (bodies_of p w (suc depth)) (body_nodes p depth) k l q g args dest (stood_at g) (named p g) Ref
 
       module _ (k l : ℕ) (q : Pos) (g : ℕ) (args : List Arg) (dest : Option Destination) (func : Func) (le : next ≤ k) (found : slice_get p.funcs g ≡ Some func) (arguments : AreArguments p f func.params args) (goes : IsDestination p f func.result dest)
-          (at : CallAt p x D L N Names g (act.path ++ q ∷ []) k args) (lays : BodyLays p x D L N Names depth g (act.path ++ q ∷ []) (k + frame_cells p g args) l) (low : IsLow g) where
+          (at : CallAt p x D L N Names g (act.path ++ q ∷ []) k args) (lays : BodyLays p x D L N Names depth g (act.path ++ q ∷ []) (k + frame_cells p g args) l) (low : IsLow g) (deep : typed.ranks.0 g < depth) where
         abbrev params : List Param
         params = params_of (slice_get p.funcs g)
 
@@ -369,7 +365,7 @@ module _ (p : Program) (typed : IsTypedProgram p) (x : Cells) (D : Domain) (L : 
         inner_ok : (base : ℕ → Place) → ((v : ℕ) → is_bound v (params_of (slice_get p.funcs g)) args ≡ false → base v ≡ own_place p (act.path ++ q ∷ []) v) →
             BodyOk depth g (called_frame p fr k q g args) (record { path = act.path ++ q ∷ []; base = base }) (λ kept. InFrame x N D L p (named p f) fr act.base kept × outer kept) (k + frame_cells p g args) l
         inner_ok base u =
-            ih g func found low (called_frame p fr k q g args) (record { path = act.path ++ q ∷ []; base = base }) (λ kept. InFrame x N D L p (named p f) fr act.base kept × outer kept) k (k + frame_cells p g args) l (inner_stands base u) lays
+            ih g func found low deep (called_frame p fr k q g args) (record { path = act.path ++ q ∷ []; base = base }) (λ kept. InFrame x N D L p (named p f) fr act.base kept × outer kept) k (k + frame_cells p g args) l (inner_stands base u) lays
 
         -- what is told of the result is the same, whichever call tells it
         told_same : (c : ℕ) (o : Option Num) (kept : ℕ → ℤ) (z : ℤ) → told c o kept z → told_of p fr x D L (named p f) N w act outer s.fits inputs always G fair Names c o kept z
@@ -390,7 +386,7 @@ module _ (p : Program) (typed : IsTypedProgram p) (x : Cells) (D : Domain) (L : 
             Follows x D L G fair Names (AtVisit x N D L) (InCall x N D L p (named p g) (λ kept. InFrame x N D L p (named p f) fr act.base kept × outer kept) (called_frame p fr k q g args) base)
             (Returned x N D L (λ kept. InFrame x N D L p (named p f) fr act.base kept × outer kept)
             (told_of p fr x D L (named p f) N w act outer s.fits inputs always G fair Names (kept_from p g k + all_kept args) (result_of (slice_get p.funcs g))))
-            (InCall x N D L p (named p g) (λ kept. InFrame x N D L p (named p f) fr act.base kept × outer kept) (called_frame p fr k q g args) base) (λ st. bodies_of p w depth g (record { path = act.path ++ q ∷ []; base = base }) st)
+            (InCall x N D L p (named p g) (λ kept. InFrame x N D L p (named p f) fr act.base kept × outer kept) (called_frame p fr k q g args) base) (λ st. bodies_of p w (suc depth) g (record { path = act.path ++ q ∷ []; base = base }) st)
             (piece D x (node.Block (body_nodes p depth g (called_frame p fr k q g args) (k + frame_cells p g args) l)))
         unfolding called_frame
         body_said base u e st b =
@@ -400,7 +396,7 @@ module _ (p : Program) (typed : IsTypedProgram p) (x : Cells) (D : Domain) (L : 
             (told_of p fr x D L (named p f) N w act outer s.fits inputs always G fair Names (kept_from p g k + all_kept args) (result_of (slice_get p.funcs g))))
             (InCall x N D L p (named p g) (λ kept. InFrame x N D L p (named p f) fr act.base kept × outer kept) (called_frame p fr k q g args) base)
             (InCall x N D L p (named p g) (λ kept. InFrame x N D L p (named p f) fr act.base kept × outer kept) (called_frame p fr k q g args) base)
-            ((piece D x (node.Block (body_nodes p depth g (called_frame p fr k q g args) (k + frame_cells p g args) l))).after e) (bodies_of p w depth g (record { path = act.path ++ q ∷ []; base = base }) st)
+            ((piece D x (node.Block (body_nodes p depth g (called_frame p fr k q g args) (k + frame_cells p g args) l))).after e) (bodies_of p w (suc depth) g (record { path = act.path ++ q ∷ []; base = base }) st)
             (λ store result clock e h. record { kept = h.kept; outside = h.outside; is_result = told_same (kept_from p g k + all_kept args) (result_of (slice_get p.funcs g)) h.kept result h.is_result; holds = h.holds })
             (λ store result clock e h. h) ((inner_ok base u).follows e st b)
 

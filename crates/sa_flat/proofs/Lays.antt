@@ -5,9 +5,9 @@ use Rattle.std.specs.Prelude.{get_or, slice_get}
 use Rattle.sa_base.specs.declared.num.Num.{Num}
 use Rattle.sa_base.specs.declared.num.Num.TheVariants.{I32}
 use Rattle.sa_base.specs.declared.pos.Pos.{Pos}
-use Rattle.sa_typed.specs.Layouts.{Layout, layout_of, index_of}
+use Rattle.sa_typed.specs.Layouts.{Layout, layout_of, index_of, nums}
 use Rattle.sa_typed.specs.WellTyped.{type_of}
-use Rattle.sa_typed.specs.Executions.{Loop, same_var, initial_of, own_place, block_of}
+use Rattle.sa_typed.specs.Executions.{Loop, same_var, initial_of, initial_store, own_place, block_of}
 use Rattle.sa_typed.specs.Frames.{size, access_indices, all_kept, frame_cells, result_of, cells_in, loops_in, body_cells, body_loops, is_reference}
 use Rattle.sa_typed.specs.TypedPrograms.{IsOwn}
 use Rattle.sa_typed.specs.declared.expr.Expr.{Expr, Read', Row_of-Step, end_of-Step, more_of-Step, more_of-Expr, end_of-Expr}
@@ -18,8 +18,9 @@ use Rattle.sa_typed.specs.declared.stmt.Arg.TheVariants.{Value as ByValue, Objec
 use Rattle.sa_typed.specs.declared.stmt.Stmt.{Stmt, Row_of-Stmt, end_of-Stmt, more_of-Stmt, Row_of-Group, end_of-Group, more_of-Group}
 use Rattle.sa_typed.specs.declared.program.Place.{Place}
 use Rattle.sa_typed.specs.declared.program.Program.{Program}
-use Rattle.sa_ir.specs.Frames.{own_target}
+use Rattle.sa_ir.specs.Frames.{own_target, main_first, initial_ends_of}
 use Rattle.sa_ir.specs.Initial.{object_ends}
+use Rattle.sa_ir.specs.Lowered.{behind_main}
 use Rattle.sa_ir.specs.Nodes.{kept_from}
 use Rattle.sa_flat.specs.Domain.{Domain}
 use Rattle.sa_flat.specs.Meanings.{Cells}
@@ -95,3 +96,14 @@ module _ (p : Program) (x : Cells) (D : Domain) (L : Lawful x D) (N : Naming x) 
   unfoldable pub BodyLays : ℕ → ℕ → List Pos → ℕ → ℕ → Type 0
   BodyLays zero f path k l = Unit {0}
   BodyLays (suc depth) f path k l = StmtLays depth (BodyLays depth) path k l (block_of (slice_get p.funcs f))
+
+  -- ---- of a whole program
+  -- main's call and the calls inside; each cell that stands for a place is of its element's type; and the first cells are those of
+  -- globals and static locals, which begin with their initial values
+  pub record Lowers : Type 0 where
+    pub main : CallAt p.entry [] (main_first p) []
+    pub body : BodyLays (length p.funcs) p.entry [] (behind_main p) 0
+    pub element : (c : ℕ) (a : Place) → L.IsCell c → N.names c a → slice_get (nums (layout_of p a.var)) (index_of (layout_of p a.var) a.parts) ≡ Some (x.num c)
+    pub shown : (c : ℕ) → c < length (initial_ends_of p) → N.shown c ≡ true
+    pub ends : AreEnds x D L 0 (initial_ends_of p)
+    pub hold : (time : ℤ) (bt : ℕ → ℤ) → ((c : ℕ) → c < length (initial_ends_of p) → (a : Place) × N.names c a × (bt c ≡ initial_store p a)) → InEnds x D L time 0 (initial_ends_of p) bt

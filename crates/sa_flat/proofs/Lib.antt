@@ -44,5 +44,6 @@ pub mod LocalLaws
 pub mod Bodies
 pub mod BodyWalks
 pub mod MainBodies
+pub mod ProgramLaws
 pub mod SoundLaws
 mod Samples

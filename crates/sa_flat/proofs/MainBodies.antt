@@ -1,5 +1,5 @@
 -- Main: statements, the clock loop with its wait at the end, and a `return` at most.
-use Rattle.std.proofs.Common.{◌≡◌, ℕ, ◌+◌, ◌≤◌, ◌<◌, ℤ, false, List, ◌++◌, refl, arith, Option, Some, None, inl, inr}
+use Rattle.std.proofs.Common.{suc, ◌≡◌, ℕ, ◌+◌, ◌≤◌, ◌<◌, ℤ, false, List, ◌++◌, refl, arith, Option, Some, None, inl, inr}
 use Rattle.std.specs.List.{AllByRecursion}
 use Rattle.sa_base.specs.declared.num.Num.{Num}
 use Rattle.sa_base.specs.declared.pos.Pos.{Pos}
@@ -38,7 +38,7 @@ wait_is _ h = absurd h
 
 module _ (p : Program) (typed : IsTypedProgram p) (x : Cells) (D : Domain) (L : Lawful x D) (N : Naming x) (w : Setting) (Names : ℕ → Loop → Type 0) (G : Found D.Env) (fair : AreFair x D L G) (inputs : InputsIn p typed x D L N w Names)
     (always : InputsNow p typed x D L N w Names) (copies : CopiesHold p typed x D L N w Names G fair inputs always) (f : ℕ) (fr : Call) (act : Activation) (outer : (ℕ → ℤ) → Type 0) (first next : ℕ) (s : Stands p typed x D L N w Names f fr act outer first next)
-    (depth : ℕ) (ih : BodiesHold p typed x D L N w Names G fair inputs always depth) where
+    (depth : ℕ) (ih : BodiesHold p typed x D L N w Names G fair inputs always depth) (deep : typed.ranks.0 p.entry ≤ depth) where
   abbrev Ok : Simple → Type 0
   Ok = SimpleOk p typed x D L N w Names G fair inputs always copies f fr act outer first next s depth ih
 
@@ -52,10 +52,10 @@ module _ (p : Program) (typed : IsTypedProgram p) (x : Cells) (D : Domain) (L : 
   Low ss = AllByRecursion (λ s. typed.ranks.0 s.func < typed.ranks.0 p.entry) ss
 
   abbrev pub Turns : {n : _} → ℕ → ℕ → Row_of-Stmt n → Type 0
-  Turns k l r = TurnWalks p fr x D L (named p f) N w act depth (bodies_of p w depth) (body_nodes p depth) (SimpleOk p typed x D L N w Names G fair inputs always copies f fr act outer first next s depth ih) (CallsOk p typed x D L N w Names G fair inputs always copies f fr act outer first next s depth ih) Names s.fits inputs (simples_keep p typed x D L N w Names G fair inputs always copies f fr act outer first next s depth ih) (calls_keep p typed x D L N w Names G fair inputs always copies f fr act outer first next s depth ih) k l r
+  Turns k l r = TurnWalks p fr x D L (named p f) N w act depth (bodies_of p w (suc depth)) (body_nodes p depth) (SimpleOk p typed x D L N w Names G fair inputs always copies f fr act outer first next s depth ih) (CallsOk p typed x D L N w Names G fair inputs always copies f fr act outer first next s depth ih) Names s.fits inputs (simples_keep p typed x D L N w Names G fair inputs always copies f fr act outer first next s depth ih) (calls_keep p typed x D L N w Names G fair inputs always copies f fr act outer first next s depth ih) k l r
 
   abbrev pub Mains : {n : _} → ℕ → ℕ → Row_of-Stmt n → Type 0
-  Mains k l r = MainWalks p fr x D L (named p f) N w act depth (bodies_of p w depth) (body_nodes p depth) (SimpleOk p typed x D L N w Names G fair inputs always copies f fr act outer first next s depth ih) (CallsOk p typed x D L N w Names G fair inputs always copies f fr act outer first next s depth ih) Names s.fits inputs (simples_keep p typed x D L N w Names G fair inputs always copies f fr act outer first next s depth ih) (calls_keep p typed x D L N w Names G fair inputs always copies f fr act outer first next s depth ih) k l r
+  Mains k l r = MainWalks p fr x D L (named p f) N w act depth (bodies_of p w (suc depth)) (body_nodes p depth) (SimpleOk p typed x D L N w Names G fair inputs always copies f fr act outer first next s depth ih) (CallsOk p typed x D L N w Names G fair inputs always copies f fr act outer first next s depth ih) Names s.fits inputs (simples_keep p typed x D L N w Names G fair inputs always copies f fr act outer first next s depth ih) (calls_keep p typed x D L N w Names G fair inputs always copies f fr act outer first next s depth ih) k l r
 
   more : (k n : ℕ) → next ≤ k → next ≤ k + n
   more k n le = omega (arith, le)
@@ -71,11 +71,12 @@ module _ (p : Program) (typed : IsTypedProgram p) (x : Cells) (D : Domain) (L : 
   turn_law end_of-Stmt k l le h y c = absurd h
   turn_law (more_of-Stmt t rest) k l le (inl h) y c = inl (wait_is t h.0, empty_row rest h.1)
   turn_law (more_of-Stmt t rest) k l le (inr h) y c =
-      inr
-      (stmt_law p typed x D L N w Names G fair inputs always copies f fr act outer first next s depth ih t false k l le h.0 y.0 (low_left (calls_in t) (calls_in_all rest) c),
-      turn_law rest (k + cells_in p (body_cells p depth) t) (l + loops_in (body_loops p depth) t) (more k (cells_in p (body_cells p depth) t) le) h.1 y.1 (low_right (calls_in t) (calls_in_all rest) c))
+      inr (
+        stmt_law p typed x D L N w Names G fair inputs always copies f fr act outer first next s depth ih (typed.ranks.0 p.entry) (omega arith) deep t false k l le h.0 y.0 (low_left (calls_in t) (calls_in_all rest) c),
+        turn_law rest (k + cells_in p (body_cells p depth) t) (l + loops_in (body_loops p depth) t) (more k (cells_in p (body_cells p depth) t) le) h.1 y.1 (low_right (calls_in t) (calls_in_all rest) c),
+      )
 
-  clock_law : (t : Stmt) (k l : ℕ) → next ≤ k → IsClockLoop p f t → StmtLays p x D L N Names depth (BodyLays p x D L N Names depth) act.path k l t → Low (calls_in t) → ClockWalks p fr x D L (named p f) N w act depth (bodies_of p w depth) (body_nodes p depth) (SimpleOk p typed x D L N w Names G fair inputs always copies f fr act outer first next s depth ih) (CallsOk p typed x D L N w Names G fair inputs always copies f fr act outer first next s depth ih) Names s.fits inputs (simples_keep p typed x D L N w Names G fair inputs always copies f fr act outer first next s depth ih) (calls_keep p typed x D L N w Names G fair inputs always copies f fr act outer first next s depth ih) k l t
+  clock_law : (t : Stmt) (k l : ℕ) → next ≤ k → IsClockLoop p f t → StmtLays p x D L N Names depth (BodyLays p x D L N Names depth) act.path k l t → Low (calls_in t) → ClockWalks p fr x D L (named p f) N w act depth (bodies_of p w (suc depth)) (body_nodes p depth) (SimpleOk p typed x D L N w Names G fair inputs always copies f fr act outer first next s depth ih) (CallsOk p typed x D L N w Names G fair inputs always copies f fr act outer first next s depth ih) Names s.fits inputs (simples_keep p typed x D L N w Names G fair inputs always copies f fr act outer first next s depth ih) (calls_keep p typed x D L N w Names G fair inputs always copies f fr act outer first next s depth ih) k l t
   unfolding StmtLays calls_in
   clock_law (Stmt.Loop' q kind.Clock None n (more_of-Stmt (Stmt.Block' m all) end_of-Stmt) None) k l le h y c = (y.0, turn_law all k (l + 1) le h y.1 c)
   clock_law _ k l le h y c = absurd h
@@ -84,29 +85,31 @@ module _ (p : Program) (typed : IsTypedProgram p) (x : Cells) (D : Domain) (L : 
   abbrev Result_hidden : Option Num → Type 0
   Result_hidden o = (num : Num) → o ≡ Some num → IsHidden x D L N num fr.result × (first ≤ fr.result)
 
-  last : {n : _} (to : Num) (t : Stmt) (rest : Row_of-Stmt n) (k l : ℕ) → typing.IsReturn p f (Some to) t × typing.IsEmpty rest → ReturnWalks p fr x D L (named p f) N w act depth (bodies_of p w depth) (body_nodes p depth) (SimpleOk p typed x D L N w Names G fair inputs always copies f fr act outer first next s depth ih) (CallsOk p typed x D L N w Names G fair inputs always copies f fr act outer first next s depth ih) Names s.fits inputs (simples_keep p typed x D L N w Names G fair inputs always copies f fr act outer first next s depth ih) (calls_keep p typed x D L N w Names G fair inputs always copies f fr act outer first next s depth ih) to k l (more_of-Stmt t rest)
+  last : {n : _} (to : Num) (t : Stmt) (rest : Row_of-Stmt n) (k l : ℕ) → typing.IsReturn p f (Some to) t × typing.IsEmpty rest → ReturnWalks p fr x D L (named p f) N w act depth (bodies_of p w (suc depth)) (body_nodes p depth) (SimpleOk p typed x D L N w Names G fair inputs always copies f fr act outer first next s depth ih) (CallsOk p typed x D L N w Names G fair inputs always copies f fr act outer first next s depth ih) Names s.fits inputs (simples_keep p typed x D L N w Names G fair inputs always copies f fr act outer first next s depth ih) (calls_keep p typed x D L N w Names G fair inputs always copies f fr act outer first next s depth ih) to k l (more_of-Stmt t rest)
   unfolding ReturnWalks
-  last to t rest k l h = inl (is_return p typed x D L N w Names G fair inputs always copies f fr act outer first next s depth ih to t h.0, empty_row rest h.1)
+  last to t rest k l h = inl (is_return p typed x D L N w Names G fair inputs always copies f fr act outer first next s depth ih (typed.ranks.0 p.entry) (omega arith) deep to t h.0, empty_row rest h.1)
 
   after_moving : {n : _} (r : Row_of-Stmt n) (o : Option Num) (k l : ℕ) → Result_hidden o → IsAfterClock p f o r → MovingWalk x D L (before D x (all_nodes p depth (body_nodes p depth) fr k l r) (done D))
   unfolding nodes
   after_moving end_of-Stmt o k l hid h = done_moving x D L
   after_moving (more_of-Stmt t rest) None k l hid h = absurd (no_return p f t h.0)
   after_moving (more_of-Stmt t rest) (Some to) k l hid h =
-      let b = return_body_still p fr x D L (named p f) N w act depth (bodies_of p w depth) (body_nodes p depth) (SimpleOk p typed x D L N w Names G fair inputs always copies f fr act outer first next s depth ih) (CallsOk p typed x D L N w Names G fair inputs always copies f fr act outer first next s depth ih) Names s.fits inputs (simples_keep p typed x D L N w Names G fair inputs always copies f fr act outer first next s depth ih) (calls_keep p typed x D L N w Names G fair inputs always copies f fr act outer first next s depth ih) to (more_of-Stmt t rest) k l (hid to refl).0.0 (last to t rest k l h) in
+      let b = return_body_still p fr x D L (named p f) N w act depth (bodies_of p w (suc depth)) (body_nodes p depth) (SimpleOk p typed x D L N w Names G fair inputs always copies f fr act outer first next s depth ih) (CallsOk p typed x D L N w Names G fair inputs always copies f fr act outer first next s depth ih) Names s.fits inputs (simples_keep p typed x D L N w Names G fair inputs always copies f fr act outer first next s depth ih) (calls_keep p typed x D L N w Names G fair inputs always copies f fr act outer first next s depth ih) to (more_of-Stmt t rest) k l (hid to refl).0.0 (last to t rest k l h) in
       record { keeps = b.keeps anywhere; fair = b.fair }
 
   pub main_law : {n : _} (r : Row_of-Stmt n) (o : Option Num) (k l : ℕ) → next ≤ k → Result_hidden o → IsMainBlock p f o r → LayAll k l r → Low (calls_in_all r) → Mains k l r
   unfolding IsMainBlock MainWalks StmtLays calls_in
   main_law end_of-Stmt o k l le hid h y c = absurd h
   main_law (more_of-Stmt t rest) o k l le hid (inl h) y c =
-      inl
-      (clock_law t k l le h.0 y.0 (low_left (calls_in t) (calls_in_all rest) c),
-      after_moving rest o (k + cells_in p (body_cells p depth) t) (l + loops_in (body_loops p depth) t) hid h.1)
+      inl (
+        clock_law t k l le h.0 y.0 (low_left (calls_in t) (calls_in_all rest) c),
+        after_moving rest o (k + cells_in p (body_cells p depth) t) (l + loops_in (body_loops p depth) t) hid h.1,
+      )
   main_law (more_of-Stmt t rest) o k l le hid (inr h) y c =
-      inr
-      (stmt_law p typed x D L N w Names G fair inputs always copies f fr act outer first next s depth ih t false k l le h.0 y.0 (low_left (calls_in t) (calls_in_all rest) c),
-      main_law rest o (k + cells_in p (body_cells p depth) t) (l + loops_in (body_loops p depth) t) (more k (cells_in p (body_cells p depth) t) le) hid h.1 y.1 (low_right (calls_in t) (calls_in_all rest) c))
+      inr (
+        stmt_law p typed x D L N w Names G fair inputs always copies f fr act outer first next s depth ih (typed.ranks.0 p.entry) (omega arith) deep t false k l le h.0 y.0 (low_left (calls_in t) (calls_in_all rest) c),
+        main_law rest o (k + cells_in p (body_cells p depth) t) (l + loops_in (body_loops p depth) t) (more k (cells_in p (body_cells p depth) t) le) hid h.1 y.1 (low_right (calls_in t) (calls_in_all rest) c),
+      )
 
   -- ---- and what it does
   module _ (stands : (kept : ℕ → ℤ) → outer kept → InFrame x N D L p (named p f) fr act.base kept) (clocks : x.clocks.hi ≡ w.max_clock) where
@@ -114,7 +117,7 @@ module _ (p : Program) (typed : IsTypedProgram p) (x : Cells) (D : Domain) (L : 
     This = InCall x N D L p (named p f) outer fr act.base
 
     abbrev Follow : {n : _} → ℕ → ℕ → Row_of-Stmt n → Type 0
-    Follow k l r = FollowsAll x D L G fair Names (AtVisit x N D L) This This This (λ st. run_all p w (bodies_of p w depth) act r st) (before D x (all_nodes p depth (body_nodes p depth) fr k l r) (done D))
+    Follow k l r = FollowsAll x D L G fair Names (AtVisit x N D L) This This This (λ st. run_all p w (bodies_of p w (suc depth)) act r st) (before D x (all_nodes p depth (body_nodes p depth) fr k l r) (done D))
 
     after_follows : {n : _} (r : Row_of-Stmt n) (o : Option Num) (k l : ℕ) → Result_hidden o → IsAfterClock p f o r → Follow k l r
     unfolding nodes run
@@ -122,21 +125,21 @@ module _ (p : Program) (typed : IsTypedProgram p) (x : Cells) (D : Domain) (L : 
     after_follows (more_of-Stmt t rest) None k l hid h = absurd (no_return p f t h.0)
     after_follows (more_of-Stmt t rest) (Some to) k l hid h =
         let r = hid to refl in
-        let b = return_body_follows p fr x D L (named p f) N w act depth (bodies_of p w depth) (body_nodes p depth) (SimpleOk p typed x D L N w Names G fair inputs always copies f fr act outer first next s depth ih) (CallsOk p typed x D L N w Names G fair inputs always copies f fr act outer first next s depth ih) Names s.fits inputs (simples_keep p typed x D L N w Names G fair inputs always copies f fr act outer first next s depth ih) (calls_keep p typed x D L N w Names G fair inputs always copies f fr act outer first next s depth ih) outer always G fair (simples_hold p typed x D L N w Names G fair inputs always copies f fr act outer first next s depth ih) (calls_hold p typed x D L N w Names G fair inputs always copies f fr act outer first next s depth ih) (λ kept z o. s.outside fr.result r.1 kept z o) r.0.1 to (more_of-Stmt t rest) k l r.0.0 (last to t rest k l h) in
+        let b = return_body_follows p fr x D L (named p f) N w act depth (bodies_of p w (suc depth)) (body_nodes p depth) (SimpleOk p typed x D L N w Names G fair inputs always copies f fr act outer first next s depth ih) (CallsOk p typed x D L N w Names G fair inputs always copies f fr act outer first next s depth ih) Names s.fits inputs (simples_keep p typed x D L N w Names G fair inputs always copies f fr act outer first next s depth ih) (calls_keep p typed x D L N w Names G fair inputs always copies f fr act outer first next s depth ih) outer always G fair (simples_hold p typed x D L N w Names G fair inputs always copies f fr act outer first next s depth ih) (calls_hold p typed x D L N w Names G fair inputs always copies f fr act outer first next s depth ih) (λ kept z o. s.outside fr.result r.1 kept z o) r.0.1 to (more_of-Stmt t rest) k l r.0.0 (last to t rest k l h) in
         (λ es st u g m i. result_said x D L G fair Names (AtVisit x N D L) (Returned x N D L outer (in_cell x N D L fr.result)) This This This ((before D x (all_nodes p depth (body_nodes p depth) fr k l (more_of-Stmt t rest)) (done D)).after es)
-        (run_all p w (bodies_of p w depth) act (more_of-Stmt t rest) st) (λ store result clock e h. record { kept = h.kept; frame = stands h.kept h.outside; outside = h.outside; holds = h.holds }) (λ store result clock e h. h) (b es st u g m i))
+        (run_all p w (bodies_of p w (suc depth)) act (more_of-Stmt t rest) st) (λ store result clock e h. record { kept = h.kept; frame = stands h.kept h.outside; outside = h.outside; holds = h.holds }) (λ store result clock e h. h) (b es st u g m i))
 
-    no_clock : {A : Type 0} (t : Stmt) (k l : ℕ) → IsStatement p f false t → ClockWalks p fr x D L (named p f) N w act depth (bodies_of p w depth) (body_nodes p depth) (SimpleOk p typed x D L N w Names G fair inputs always copies f fr act outer first next s depth ih) (CallsOk p typed x D L N w Names G fair inputs always copies f fr act outer first next s depth ih) Names s.fits inputs (simples_keep p typed x D L N w Names G fair inputs always copies f fr act outer first next s depth ih) (calls_keep p typed x D L N w Names G fair inputs always copies f fr act outer first next s depth ih) k l t → A
+    no_clock : {A : Type 0} (t : Stmt) (k l : ℕ) → IsStatement p f false t → ClockWalks p fr x D L (named p f) N w act depth (bodies_of p w (suc depth)) (body_nodes p depth) (SimpleOk p typed x D L N w Names G fair inputs always copies f fr act outer first next s depth ih) (CallsOk p typed x D L N w Names G fair inputs always copies f fr act outer first next s depth ih) Names s.fits inputs (simples_keep p typed x D L N w Names G fair inputs always copies f fr act outer first next s depth ih) (calls_keep p typed x D L N w Names G fair inputs always copies f fr act outer first next s depth ih) k l t → A
     unfolding IsStatement
     no_clock (Stmt.Loop' q kind.Clock None n (more_of-Stmt (Stmt.Block' m all) end_of-Stmt) None) k l h c = absurd h.0
     no_clock _ k l h c = absurd c
 
-    return_no_clock : {A : Type 0} (t : Stmt) (o : Option Num) (k l : ℕ) → typing.IsReturn p f o t → ClockWalks p fr x D L (named p f) N w act depth (bodies_of p w depth) (body_nodes p depth) (SimpleOk p typed x D L N w Names G fair inputs always copies f fr act outer first next s depth ih) (CallsOk p typed x D L N w Names G fair inputs always copies f fr act outer first next s depth ih) Names s.fits inputs (simples_keep p typed x D L N w Names G fair inputs always copies f fr act outer first next s depth ih) (calls_keep p typed x D L N w Names G fair inputs always copies f fr act outer first next s depth ih) k l t → A
+    return_no_clock : {A : Type 0} (t : Stmt) (o : Option Num) (k l : ℕ) → typing.IsReturn p f o t → ClockWalks p fr x D L (named p f) N w act depth (bodies_of p w (suc depth)) (body_nodes p depth) (SimpleOk p typed x D L N w Names G fair inputs always copies f fr act outer first next s depth ih) (CallsOk p typed x D L N w Names G fair inputs always copies f fr act outer first next s depth ih) Names s.fits inputs (simples_keep p typed x D L N w Names G fair inputs always copies f fr act outer first next s depth ih) (calls_keep p typed x D L N w Names G fair inputs always copies f fr act outer first next s depth ih) k l t → A
     return_no_clock (Stmt.Return q num a) o k l h c = absurd c
     return_no_clock _ o k l h c = absurd h
 
     abbrev Afters : {n : _} → ℕ → ℕ → Row_of-Stmt n → Type 0
-    Afters k l r = AfterHolds p fr x D L (named p f) N w act depth (bodies_of p w depth) (body_nodes p depth) (SimpleOk p typed x D L N w Names G fair inputs always copies f fr act outer first next s depth ih) (CallsOk p typed x D L N w Names G fair inputs always copies f fr act outer first next s depth ih) Names s.fits inputs (simples_keep p typed x D L N w Names G fair inputs always copies f fr act outer first next s depth ih) (calls_keep p typed x D L N w Names G fair inputs always copies f fr act outer first next s depth ih) outer always G fair (simples_hold p typed x D L N w Names G fair inputs always copies f fr act outer first next s depth ih) (calls_hold p typed x D L N w Names G fair inputs always copies f fr act outer first next s depth ih) clocks k l r
+    Afters k l r = AfterHolds p fr x D L (named p f) N w act depth (bodies_of p w (suc depth)) (body_nodes p depth) (SimpleOk p typed x D L N w Names G fair inputs always copies f fr act outer first next s depth ih) (CallsOk p typed x D L N w Names G fair inputs always copies f fr act outer first next s depth ih) Names s.fits inputs (simples_keep p typed x D L N w Names G fair inputs always copies f fr act outer first next s depth ih) (calls_keep p typed x D L N w Names G fair inputs always copies f fr act outer first next s depth ih) outer always G fair (simples_hold p typed x D L N w Names G fair inputs always copies f fr act outer first next s depth ih) (calls_hold p typed x D L N w Names G fair inputs always copies f fr act outer first next s depth ih) clocks k l r
 
     behind_clock : {n : _} (r : Row_of-Stmt n) (o : Option Num) (k l : ℕ) → IsAfterClock p f o r → Afters k l r
     unfolding AfterHolds
