@@ -54,6 +54,13 @@ use Rattle.sa_flat.proofs.StatementLaws.{then_state_then}
 use Rattle.sa_flat.proofs.BodyLaws.{any_said, Implies, result_said}
 use Rattle.sa_flat.proofs.SimpleLaws.{InputsAlways, AccessWalks, Leaves, access_leads, VarWalks, variable_leads, value_fit, expression_means, variable_places, assigned}
 
+-- whether an argument makes the variable stand for another object
+unfoldable pub is_bound : ℕ → List Param → List Arg → Bool
+is_bound v [] args = false
+is_bound v (q ∷ params) [] = false
+is_bound v (q ∷ params) (ByValue at a ∷ args) = is_bound v params args
+is_bound v (q ∷ params) (ByReference y ∷ args) = v == q.var || is_bound v params args
+
 -- ---- arguments one by one
 module _ (p : Program) (w : Setting) (act : Activation) where
   -- one argument, and what goes on with the objects that variables name then
@@ -233,12 +240,6 @@ module _ (p : Program) (fr : Call) (x : Cells) (D : Domain) (L : Lawful x D) (ok
   end_stood stood (q ∷ params) (ByReference y ∷ args) = end_stood (with_stood stood q) params args
 
   -- the objects that variables name are those from before, but for parameters that are references
-  unfoldable pub is_bound : ℕ → List Param → List Arg → Bool
-  is_bound v [] args = false
-  is_bound v (q ∷ params) [] = false
-  is_bound v (q ∷ params) (ByValue at a ∷ args) = is_bound v params args
-  is_bound v (q ∷ params) (ByReference y ∷ args) = v == q.var || is_bound v params args
-
   abbrev pub Unbound : (ℕ → Place) → List Param → List Arg → (ℕ → Place) → Type 0
   Unbound base params args after = (v : ℕ) → is_bound v params args ≡ false → after v ≡ base v
 

@@ -23,7 +23,7 @@ use Rattle.sa_flat.proofs.SpanLaws.{range_in}
 use Rattle.sa_flat.proofs.StateLaws.{Naming, has, has_by, point, point_has}
 
 -- each number that is taken is of its element's type
-any_of_type : (ns : List Num) (tape rest : List ℤ) (zs : List ℤ) → any_numbers ns tape ≡ Gives zs rest → (i : ℕ) (num : Num) → slice_get ns i ≡ Some num → is_of num (get_or zs i (pos 0)) ≡ true
+pub any_of_type : (ns : List Num) (tape rest : List ℤ) (zs : List ℤ) → any_numbers ns tape ≡ Gives zs rest → (i : ℕ) (num : Num) → slice_get ns i ≡ Some num → is_of num (get_or zs i (pos 0)) ≡ true
 unfolding any_numbers
 any_of_type [] tape rest zs e i num h = cc
 any_of_type (n ∷ ns) [] rest zs e i num h = cc

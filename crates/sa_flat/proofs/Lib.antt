@@ -37,5 +37,13 @@ pub mod ValueLaws
 pub mod RefLaws
 pub mod ReferenceLaws
 pub mod TypedWalks
+pub mod Lays
+pub mod ParamLaws
+pub mod ArgLaws
+pub mod LocalLaws
+pub mod Bodies
+pub mod BodyWalks
+pub mod MainBodies
+pub mod ProgramLaws
 pub mod SoundLaws
 mod Samples
