@@ -4,8 +4,6 @@
 mod board;
 mod entry;
 mod rule;
-#[cfg(test)]
-mod tests;
 mod view;
 
 pub use entry::{Entry, Filing};

@@ -8,7 +8,5 @@
 #![tactic(auto)]
 
 mod clocked;
-#[cfg(test)]
-mod tests;
 
 pub use clocked::Clocked;

@@ -8,8 +8,6 @@
 
 mod event;
 mod machine;
-#[cfg(test)]
-mod tests;
 mod work;
 
 pub use event::{Branch, CoreError, Event};

@@ -15,8 +15,6 @@ mod frame;
 mod laws;
 mod shop;
 mod slot;
-#[cfg(test)]
-mod tests;
 mod walks;
 
 pub use env::Env;

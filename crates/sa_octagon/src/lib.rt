@@ -8,8 +8,6 @@
 mod fill;
 mod pack;
 mod reads;
-#[cfg(test)]
-mod tests;
 
 pub use pack::Pack;
 pub use sa_dbm::{Closing, OutOfMemory};

@@ -6,10 +6,8 @@
 #![tactic(auto)]
 
 mod operators;
-#[cfg(test)]
-mod tests;
 
 pub use operators::{
-    converted_span, note_conversion, note_operator, note_prefix, operator_span, prefix_span,
+    as_span, converted_span, note_conversion, note_operator, note_prefix, operator_span, prefix_span,
     range_of,
 };

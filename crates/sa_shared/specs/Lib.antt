@@ -1,6 +1,5 @@
 pub mod Copies
 pub mod Forest
-pub mod Samples
 pub mod Slots
 pub mod Tree
 pub mod Walks

@@ -13,8 +13,6 @@ mod layer;
 mod nodes;
 mod range;
 mod slot;
-#[cfg(test)]
-mod tests;
 mod trees;
 mod walks;
 mod way;

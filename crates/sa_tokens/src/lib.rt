@@ -15,8 +15,6 @@ mod mark;
 mod number;
 mod piece;
 mod punct;
-#[cfg(test)]
-mod tests;
 mod token;
 mod word;
 

@@ -12,8 +12,3 @@ mod source;
 mod top;
 
 pub use top::{run, run_alone};
-
-#[cfg(test)]
-mod tests;
-#[cfg(test)]
-mod typing_tests;

@@ -14,8 +14,6 @@ mod program;
 mod ranges;
 mod shape;
 mod stmt;
-#[cfg(test)]
-mod tests;
 
 pub use arithmetic::{
     as_num, bits, common, converted, is_of, is_signed, literal_type, promoted, wrapped,
