@@ -533,22 +533,39 @@ fn constant_indices(rt: HostRuntime) -> Result<(), Fail> {
     Ok(())
 }
 
+/// Whether a variable's value is constant.
+fn is_read_constant(alloc: Global) -> bool {
+    let steps = Items::new(alloc);
+    is_constant(&Expr::Read(Access { var: 0, steps }, Num::I32))
+}
+
+/// Whether an input with its sign changed is constant.
+fn is_prefix_constant(alloc: Global) -> Result<bool, OutOfMemory> {
+    let input = Boxed::new(alloc, Expr::Input(0, Num::U8))?;
+    Ok(is_constant(&Expr::Prefix(Prefix::Minus, AT, Num::I32, input)))
+}
+
+/// Whether a converted literal is constant.
+fn is_cast_constant(alloc: Global) -> Result<bool, OutOfMemory> {
+    let literal = Boxed::new(alloc, Expr::Number(7, Num::I32))?;
+    Ok(is_constant(&Expr::Cast(AT, Num::I8, literal)))
+}
+
+/// Whether a sum of literals is constant.
+fn is_sum_constant(alloc: Global) -> Result<bool, OutOfMemory> {
+    let sum = pair(alloc, Operator::Plus, 1, 2)?;
+    Ok(is_constant(&sum))
+}
+
 #[test]
 fn constant_forms(rt: HostRuntime) -> Result<(), Fail> {
     let alloc = rt.alloc();
-    let input = Boxed::new(alloc, Expr::Input(0, Num::U8))?;
-    let literal = Boxed::new(alloc, Expr::Number(7, Num::I32))?;
-    let steps = Items::new(alloc);
-    for (e, want) in [
-        (Expr::Number(7, Num::I32), true),
-        (Expr::Input(0, Num::U8), false),
-        (Expr::Read(Access { var: 0, steps }, Num::I32), false),
-        (Expr::Prefix(Prefix::Minus, AT, Num::I32, input), false),
-        (Expr::Cast(AT, Num::I8, literal), true),
-        (pair(alloc, Operator::Plus, 1, 2)?, true),
-    ] {
-        assert_eq!(rt; is_constant(&e), want);
-    }
+    assert!(rt; is_constant(&Expr::Number(7, Num::I32)));
+    assert!(rt; !is_constant(&Expr::Input(0, Num::U8)));
+    assert!(rt; !is_read_constant(alloc));
+    assert!(rt; !is_prefix_constant(alloc)?);
+    assert!(rt; is_cast_constant(alloc)?);
+    assert!(rt; is_sum_constant(alloc)?);
     Ok(())
 }
 
@@ -650,27 +667,37 @@ fn ranges_over_ticks(rt: HostRuntime) -> Result<(), Fail> {
     Ok(())
 }
 
-#[test]
-fn ranges_of_types(rt: HostRuntime) -> Result<(), Fail> {
-    let alloc = rt.alloc();
+/// An input.
+fn input(alloc: Global, name: &str, num: Num) -> Result<Input, OutOfMemory> {
+    let name = Text::of(alloc, name)?;
+    Ok(Input { name, num })
+}
+
+/// An `unsigned char` and an `int`.
+fn two_inputs(alloc: Global) -> Result<Items<Input>, OutOfMemory> {
     let mut inputs = Items::new(alloc);
-    inputs.push(Input {
-        name: Text::of(alloc, "u")?,
-        num: Num::U8,
-    })?;
-    inputs.push(Input {
-        name: Text::of(alloc, "v")?,
-        num: Num::I32,
-    })?;
+    inputs.push(input(alloc, "u", Num::U8)?)?;
+    inputs.push(input(alloc, "v", Num::I32)?)?;
+    Ok(inputs)
+}
+
+/// The widest ranges of a program that has two inputs and nothing else.
+fn widest(alloc: Global) -> Result<Ranges, OutOfMemory> {
+    let inputs = two_inputs(alloc)?;
     let program = Program {
+        inputs,
         structs: Items::new(alloc),
         vars: Items::new(alloc),
-        inputs,
         funcs: Items::new(alloc),
         entry: 0,
         thresholds: Items::new(alloc),
     };
-    let ranges = Ranges::widest(alloc, &program)?;
+    Ranges::widest(alloc, &program)
+}
+
+#[test]
+fn ranges_of_types(rt: HostRuntime) -> Result<(), Fail> {
+    let ranges = widest(rt.alloc())?;
     assert_eq!(rt; ranges.max_clock(), 3_600_000);
     assert_eq!(rt; ranges.between(0, 0, 10), (0, 255));
     assert_eq!(rt; ranges.between(1, 7, 7), (INT_MIN, INT_MAX));
