@@ -4,6 +4,7 @@ ghost use Rattle.sa_interval.specs.Rows.{single, join_of, meet_of, is_part};
 
 mod arithmetic;
 mod bits;
+
 use std::marker::Model;
 
 /// The size of a bound that means no bound on its side: 2^100.

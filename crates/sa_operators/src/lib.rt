@@ -8,6 +8,6 @@
 mod operators;
 
 pub use operators::{
-    as_span, converted_span, note_conversion, note_operator, note_prefix, operator_span, prefix_span,
-    range_of,
+    as_span, converted_span, note_conversion, note_operator, note_prefix, operator_span,
+    prefix_span, range_of,
 };

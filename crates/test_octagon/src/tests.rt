@@ -1,5 +1,5 @@
-use sa_octagon::{Closing, Pack};
 use sa_interval::Interval;
+use sa_octagon::{Closing, Pack};
 use std::test::Fail;
 
 /// x is 0 to 10, and y = x + 3: what is known of their difference.

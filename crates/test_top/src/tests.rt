@@ -1,8 +1,8 @@
 //! The worked cases from outside: what a source is answered with.
 
-use sa_top::run_alone;
 use sa_base::{Status, Text};
 use sa_outside::{MemShelf, MemSink, SureSink};
+use sa_top::run_alone;
 use std::alloc::{AllocError, Global};
 use std::test::Fail;
 
