@@ -1,6 +1,6 @@
 //! Tables of cases. Their values are those of ISO C for these widths, worked by hand.
 
-ghost use Rattle.std.specs.Prelude.{◌≡◌, [], ◌∷◌, IsTrue, IfOk};
+ghost use Rattle.std.specs.Prelude.{◌≡◌, [], ◌∷◌, IsTrue, IfOk, length};
 ghost use Rattle.sa_typed.specs.Ranges.{AreSpans};
 ghost use Rattle.sa_base.specs.declared.num.Num.TheVariants.{I32};
 ghost use Rattle.sa_typed.specs.Arithmetic.{IsOperand};
@@ -674,7 +674,9 @@ fn input(alloc: Global, name: &str, num: Num) -> Result<Input, OutOfMemory> {
 }
 
 /// An `unsigned char` and an `int`.
-fn two_inputs(alloc: Global) -> Result<Items<Input>, OutOfMemory> {
+fn two_inputs(alloc: Global) -> Result<Items<Input>, OutOfMemory>
+    ensures { IfOk result (λ all. length all ≡ 2) }
+{
     let mut inputs = Items::new(alloc);
     inputs.push(input(alloc, "u", Num::U8)?)?;
     inputs.push(input(alloc, "v", Num::I32)?)?;
@@ -682,7 +684,9 @@ fn two_inputs(alloc: Global) -> Result<Items<Input>, OutOfMemory> {
 }
 
 /// The widest ranges of a program that has two inputs and nothing else.
-fn widest(alloc: Global) -> Result<Ranges, OutOfMemory> {
+fn widest(alloc: Global) -> Result<Ranges, OutOfMemory>
+    ensures { IfOk result (λ r. length r.inputs ≡ 2) }
+{
     let inputs = two_inputs(alloc)?;
     let program = Program {
         inputs,

@@ -1,7 +1,7 @@
 use Rattle.std.proofs.Common.{rules, ◌≡◌, ◌∙◌, ◌^◌, ◌≤◌, sym, subst, arith}
 use Rattle.sa_dbm.specs.Tables.{IsWithin}
 use Rattle.sa_dbm.proofs.Sizes.{within_more}
-use Rattle.sa_dbm.proofs.matrix.tests.goes_on_after_a_closure.Goals as goal
+use Rattle.test_dbm.proofs.tests.goes_on_after_a_closure.Goals as goal
 
 pub loop-k-init : goal.loop-k-init
 loop-k-init g c = record { vars = c.in_ok-m.ensures.vars; within = c.in_ok-m.ensures.within 200 }

@@ -1,5 +1,5 @@
 use Rattle.std.proofs.Common.{refl}
-use Rattle.sa_interval.proofs.interval.tests.left_shift.Goals as goal
+use Rattle.test_interval.proofs.interval.left_shift.Goals as goal
 
 pub shl-requires-clause-values : goal.shl-requires-clause-values
 shl-requires-clause-values c = rw c.new.ensures at (c.if-not-le.ensures.fact.0 refl)

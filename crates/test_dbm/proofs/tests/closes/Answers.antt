@@ -1,7 +1,7 @@
 use Rattle.std.proofs.Common.{rules, ◌≡◌, ◌^◌, ◌≤◌, ℕ, ℤ, unsigned_abs, sym, subst}
 use Rattle.sa_dbm.specs.Tables.{Table, IsWithin, top_table, tightened}
 use Rattle.sa_dbm.proofs.Sizes.{within-top, within-tightened}
-use Rattle.sa_dbm.proofs.matrix.tests.closes.Goals as goal
+use Rattle.test_dbm.proofs.tests.closes.Goals as goal
 
 at_top : (m : Table) → m ≡ top_table 2 → IsWithin (2 ^ 100) m
 at_top m e = subst (IsWithin (2 ^ 100)) (sym e) (within-top (2 ^ 100) 2)

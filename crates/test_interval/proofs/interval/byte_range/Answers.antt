@@ -1,5 +1,5 @@
 use Rattle.std.proofs.Common.{inr, refl}
-use Rattle.sa_interval.proofs.interval.tests.byte_range.Goals as goal
+use Rattle.test_interval.proofs.interval.byte_range.Goals as goal
 
 pub returns : goal.returns
 returns c = (8, refl, inr c.new.ensures)

@@ -1,5 +1,5 @@
 use Rattle.std.proofs.Common.{◌≡◌}
-use Rattle.sa_dbm.proofs.matrix.tests.closes_after_one_more_bound.Given as goal
+use Rattle.test_dbm.proofs.tests.closes.Given as goal
 
 abbrev pub invariant-loop-i : goal.invariant-loop-i
 invariant-loop-i g l = record { vars : l.m.vars ≡ 2 }

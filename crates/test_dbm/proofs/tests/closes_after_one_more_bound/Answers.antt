@@ -1,6 +1,6 @@
 use Rattle.std.proofs.Common.{rules, ◌^◌, ◌*◌, ◌≤◌}
 use Rattle.sa_dbm.proofs.Sizes.{within_more, within-tightened}
-use Rattle.sa_dbm.proofs.matrix.tests.closes_after_one_more_bound.Goals as goal
+use Rattle.test_dbm.proofs.tests.closes_after_one_more_bound.Goals as goal
 
 pub tighten-requires-clause-within : goal.tighten-requires-clause-within
 tighten-requires-clause-within g c = c.in_ok-m.ensures.within (2 ^ 100)
