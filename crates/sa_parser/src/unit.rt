@@ -13,9 +13,7 @@ use sa_base::Pos;
 use sa_cursor::{Stop, Tokens};
 use sa_expressions::Grammar;
 use sa_statements::function_body;
-use sa_syntax::{
-    Base, InitDeclr, Item, Name, Param, Params, Specifiers, Start,
-};
+use sa_syntax::{Base, InitDeclr, Item, Name, Param, Params, Specifiers, Start};
 use sa_tokens::{Keyword, Punct};
 use sqlite_items::Items;
 
@@ -56,7 +54,11 @@ fn is_struct(ty: &Specifiers) -> bool
 
 /// A declared name of the file, and what it begins with.
 #[tactic(auto, unfolding(sa_syntax::specs::ReadStmt::init_declr))]
-fn init_declr(grammar: &Grammar<'_>, tokens: &mut Tokens<'_>, room: usize) -> Result<InitDeclr, Stop>
+fn init_declr(
+    grammar: &Grammar<'_>,
+    tokens: &mut Tokens<'_>,
+    room: usize,
+) -> Result<InitDeclr, Stop>
     ensures { Reads (stmt.init_declr grammar.now.names.now room tokens.old) result tokens.new }
 {
     let declr = grammar.declr(tokens, room)?;
@@ -128,7 +130,11 @@ fn param(grammar: &Grammar<'_>, tokens: &mut Tokens<'_>, room: usize) -> Result<
     })
 }
 
-fn param_list(grammar: &Grammar<'_>, tokens: &mut Tokens<'_>, room: usize) -> Result<Items<Param>, Stop>
+fn param_list(
+    grammar: &Grammar<'_>,
+    tokens: &mut Tokens<'_>,
+    room: usize,
+) -> Result<Items<Param>, Stop>
     ensures { Reads (stmt.list m.CloseParen (stmt.param grammar.now.names.now room) tokens.old) result tokens.new }
 {
     let mut found = Items::new(grammar.alloc);
@@ -186,7 +192,12 @@ fn ends(
 
 /// A function or prototype after its type.
 #[tactic(auto, using(sa_expressions::proofs::Rooms::within_deeper), unfolding(sa_syntax::specs::ReadStmt::function))]
-fn function(grammar: &Grammar<'_>, tokens: &mut Tokens<'_>, room: usize, ty: Specifiers) -> Result<Item, Stop>
+fn function(
+    grammar: &Grammar<'_>,
+    tokens: &mut Tokens<'_>,
+    room: usize,
+    ty: Specifiers,
+) -> Result<Item, Stop>
     ensures { Reads (stmt.function grammar.now.names.now room ty tokens.old) result tokens.new }
 {
     let name = tokens.any_name(grammar.alloc)?;
@@ -209,7 +220,12 @@ fn typedef(grammar: &Grammar<'_>, tokens: &mut Tokens<'_>, room: usize) -> Resul
 }
 
 #[tactic(auto, unfolding(sa_syntax::specs::ReadStmt::named_item, sa_syntax::specs::ReadStmt::global))]
-fn named_item(grammar: &Grammar<'_>, tokens: &mut Tokens<'_>, room: usize, ty: Specifiers) -> Result<Item, Stop>
+fn named_item(
+    grammar: &Grammar<'_>,
+    tokens: &mut Tokens<'_>,
+    room: usize,
+    ty: Specifiers,
+) -> Result<Item, Stop>
     ensures { Reads (stmt.named_item grammar.now.names.now room ty tokens.old) result tokens.new }
 {
     if tokens.sees_function() {

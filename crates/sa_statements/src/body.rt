@@ -15,7 +15,11 @@ use sa_tokens::Punct;
 use sqlite_items::Items;
 
 #[tactic(auto, unfolding(sa_syntax::specs::ReadStmt::block_item))]
-fn block_item(grammar: &Grammar<'_>, tokens: &mut Tokens<'_>, room: usize) -> Result<BlockItem, Stop>
+fn block_item(
+    grammar: &Grammar<'_>,
+    tokens: &mut Tokens<'_>,
+    room: usize,
+) -> Result<BlockItem, Stop>
     ensures { Reads (parts.block_item grammar.now.names.now room tokens.old) result tokens.new }
 {
     if grammar.begins_type(tokens) {
@@ -27,7 +31,11 @@ fn block_item(grammar: &Grammar<'_>, tokens: &mut Tokens<'_>, room: usize) -> Re
 }
 
 /// What stands in the braces of a function.
-fn outermost(grammar: &Grammar<'_>, tokens: &mut Tokens<'_>, room: usize) -> Result<Items<BlockItem>, Stop>
+fn outermost(
+    grammar: &Grammar<'_>,
+    tokens: &mut Tokens<'_>,
+    room: usize,
+) -> Result<Items<BlockItem>, Stop>
     ensures { Reads (spec.many stmt.no_close (parts.block_item grammar.now.names.now room) tokens.old) result tokens.new }
 {
     let mut found = Items::new(grammar.alloc);
@@ -42,7 +50,11 @@ fn outermost(grammar: &Grammar<'_>, tokens: &mut Tokens<'_>, room: usize) -> Res
 
 /// A function's body.
 #[tactic(auto, using(sa_expressions::proofs::Rooms::within_deeper), unfolding(sa_syntax::specs::ReadStmt::outermost, sa_syntax::specs::ReadStmt::block_items))]
-pub fn function_body(grammar: &Grammar<'_>, tokens: &mut Tokens<'_>, room: usize) -> Result<Block, Stop>
+pub fn function_body(
+    grammar: &Grammar<'_>,
+    tokens: &mut Tokens<'_>,
+    room: usize,
+) -> Result<Block, Stop>
     ensures { Reads (parts.block grammar.now.names.now room tokens.old) result tokens.new }
 {
     let open = tokens.opens(room, Punct::OpenBrace)?;

@@ -59,7 +59,12 @@ fn arg_value(grammar: &Grammar<'_>, tokens: &mut Tokens<'_>, room: usize) -> Res
 
 /// The arguments after the opening bracket, which stands at that place.
 #[tactic(auto, unfolding(sa_syntax::specs::ReadStmt::args))]
-fn args(grammar: &Grammar<'_>, tokens: &mut Tokens<'_>, room: usize, pos: Pos) -> Result<Items<Arg>, Stop>
+fn args(
+    grammar: &Grammar<'_>,
+    tokens: &mut Tokens<'_>,
+    room: usize,
+    pos: Pos,
+) -> Result<Items<Arg>, Stop>
     ensures { Reads (stmt.args grammar.now.names.now pos room tokens.old) result tokens.new }
 {
     if tokens.sees(Punct::CloseParen) {
@@ -70,7 +75,12 @@ fn args(grammar: &Grammar<'_>, tokens: &mut Tokens<'_>, room: usize, pos: Pos) -
     }
 }
 
-fn some_args(grammar: &Grammar<'_>, tokens: &mut Tokens<'_>, room: usize, pos: Pos) -> Result<Items<Arg>, Stop>
+fn some_args(
+    grammar: &Grammar<'_>,
+    tokens: &mut Tokens<'_>,
+    room: usize,
+    pos: Pos,
+) -> Result<Items<Arg>, Stop>
     ensures { Reads (stmt.args_from grammar.now.names.now room (spec.turns tokens.old) pos [] tokens.old) result tokens.new }
 {
     let mut found = Items::new(grammar.alloc);
@@ -101,7 +111,12 @@ pub fn call(grammar: &Grammar<'_>, tokens: &mut Tokens<'_>, room: usize) -> Resu
 // ---- assignments
 
 #[tactic(auto, unfolding(sa_syntax::specs::ReadStmt::before))]
-fn before(grammar: &Grammar<'_>, tokens: &mut Tokens<'_>, room: usize, update: Update) -> Result<Simple, Stop>
+fn before(
+    grammar: &Grammar<'_>,
+    tokens: &mut Tokens<'_>,
+    room: usize,
+    update: Update,
+) -> Result<Simple, Stop>
     ensures { Reads (stmt.before grammar.now.names.now room update tokens.old) result tokens.new }
 {
     let pos = tokens.take()?;
@@ -138,7 +153,12 @@ pub fn assigned(
     }
 }
 
-fn compounded(grammar: &Grammar<'_>, tokens: &mut Tokens<'_>, room: usize, place: Place) -> Result<Simple, Stop>
+fn compounded(
+    grammar: &Grammar<'_>,
+    tokens: &mut Tokens<'_>,
+    room: usize,
+    place: Place,
+) -> Result<Simple, Stop>
     ensures { Reads (stmt.compounded grammar.now.names.now room place (stmt.compound_in (spec.mark_at tokens.old)) tokens.old) result tokens.new }
 {
     match compound_at(tokens) {
@@ -187,7 +207,11 @@ fn local_start(
 }
 
 #[tactic(auto, unfolding(sa_syntax::specs::ReadStmt::local_declr))]
-fn local_declr(grammar: &Grammar<'_>, tokens: &mut Tokens<'_>, room: usize) -> Result<LocalDeclr, Stop>
+fn local_declr(
+    grammar: &Grammar<'_>,
+    tokens: &mut Tokens<'_>,
+    room: usize,
+) -> Result<LocalDeclr, Stop>
     ensures { Reads (stmt.local_declr grammar.now.names.now room tokens.old) result tokens.new }
 {
     let declr = grammar.declr(tokens, room)?;
@@ -201,7 +225,11 @@ fn local_declr(grammar: &Grammar<'_>, tokens: &mut Tokens<'_>, room: usize) -> R
     }
 }
 
-fn local_declrs(grammar: &Grammar<'_>, tokens: &mut Tokens<'_>, room: usize) -> Result<Items<LocalDeclr>, Stop>
+fn local_declrs(
+    grammar: &Grammar<'_>,
+    tokens: &mut Tokens<'_>,
+    room: usize,
+) -> Result<Items<LocalDeclr>, Stop>
     ensures { Reads (stmt.list m.Semicolon (stmt.local_declr grammar.now.names.now room) tokens.old) result tokens.new }
 {
     let mut found = Items::new(grammar.alloc);

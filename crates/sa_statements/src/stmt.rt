@@ -139,7 +139,11 @@ fn label(grammar: &Grammar<'_>, tokens: &mut Tokens<'_>, room: usize) -> Result<
 }
 
 /// The labels that follow.
-fn more_labels(grammar: &Grammar<'_>, tokens: &mut Tokens<'_>, room: usize) -> Result<Items<Label>, Stop>
+fn more_labels(
+    grammar: &Grammar<'_>,
+    tokens: &mut Tokens<'_>,
+    room: usize,
+) -> Result<Items<Label>, Stop>
     ensures { Reads (spec.many words.begins_with_label (stmt.a_label grammar.now.names.now room) tokens.old) result tokens.new }
 {
     let mut found = Items::new(grammar.alloc);
@@ -170,7 +174,12 @@ fn call_stmt(grammar: &Grammar<'_>, tokens: &mut Tokens<'_>, room: usize) -> Res
     Ok(Stmt::Call(call))
 }
 
-fn gives(grammar: &Grammar<'_>, tokens: &mut Tokens<'_>, room: usize, place: Place) -> Result<Stmt, Stop>
+fn gives(
+    grammar: &Grammar<'_>,
+    tokens: &mut Tokens<'_>,
+    room: usize,
+    place: Place,
+) -> Result<Stmt, Stop>
     ensures { Reads (parts.gives grammar.now.names.now room place tokens.old) result tokens.new }
 {
     let pos = tokens.expect(Punct::Equal)?;
@@ -365,7 +374,11 @@ fn block(grammar: &Grammar<'_>, tokens: &mut Tokens<'_>, room: usize) -> Result<
 /// What stands in the braces of a statement.
 #[cycle(statement)]
 #[tactic(auto, unfolding(sa_syntax::specs::ReadStmt::block_items))]
-fn nested(grammar: &Grammar<'_>, tokens: &mut Tokens<'_>, room: usize) -> Result<Items<BlockItem>, Stop>
+fn nested(
+    grammar: &Grammar<'_>,
+    tokens: &mut Tokens<'_>,
+    room: usize,
+) -> Result<Items<BlockItem>, Stop>
     ensures { Reads (stmt.block_items grammar.now.names.now room (bodies grammar.now.names.now room) ((bodies grammar.now.names.now room).stmt) tokens.old) result tokens.new }
 {
     let mut found = Items::new(grammar.alloc);
@@ -380,7 +393,11 @@ fn nested(grammar: &Grammar<'_>, tokens: &mut Tokens<'_>, room: usize) -> Result
 
 #[cycle(statement)]
 #[tactic(auto, unfolding(sa_syntax::specs::ReadStmt::block_item))]
-fn nested_item(grammar: &Grammar<'_>, tokens: &mut Tokens<'_>, room: usize) -> Result<BlockItem, Stop>
+fn nested_item(
+    grammar: &Grammar<'_>,
+    tokens: &mut Tokens<'_>,
+    room: usize,
+) -> Result<BlockItem, Stop>
     ensures { Reads (stmt.block_item grammar.now.names.now room (bodies grammar.now.names.now room) ((bodies grammar.now.names.now room).stmt) tokens.old) result tokens.new }
 {
     if grammar.begins_type(tokens) {
@@ -490,7 +507,11 @@ fn group(grammar: &Grammar<'_>, tokens: &mut Tokens<'_>, room: usize) -> Result<
 
 /// The statements up to the next label or the closing brace.
 #[cycle(statement)]
-fn body_of_group(grammar: &Grammar<'_>, tokens: &mut Tokens<'_>, room: usize) -> Result<Items<Stmt>, Stop>
+fn body_of_group(
+    grammar: &Grammar<'_>,
+    tokens: &mut Tokens<'_>,
+    room: usize,
+) -> Result<Items<Stmt>, Stop>
     ensures { Reads (spec.many parts.goes_on ((bodies grammar.now.names.now room).stmt) tokens.old) result tokens.new }
 {
     let mut found = Items::new(grammar.alloc);
