@@ -2,10 +2,11 @@
 use Rattle.std.proofs.Common.{◌≡◌, ℕ, zero, suc, ◌-◌, List, [], ◌∷◌, ◌++◌, true, false, refl, sym, ap, ◌∙◌, length, length-append, arith}
 use Rattle.std.specs.Prelude.{◌≢◌, slice_get}
 use Rattle.sa_base.specs.declared.pos.Pos.{Pos}
-use Rattle.sa_parser.specs.declared.fault.Stop.{Stop}
-use Rattle.sa_parser.specs.declared.fault.Stop.TheVariants as stop
-use Rattle.sa_parser.specs.Outcome.{stopped}
-use Rattle.sa_parser.specs.Faults.{IsFault, fault_at, place_of}
+use Rattle.sa_cursor.specs.declared.fault.Stop.{Stop}
+use Rattle.sa_cursor.specs.declared.fault.Stop.TheVariants as stop
+use Rattle.sa_cursor.specs.Outcome.{stopped}
+use Rattle.sa_parser.specs.Faults.{IsFault}
+use Rattle.sa_parser.specs.Parts.{fault_at, place_of}
 use Rattle.sa_tokens.specs.declared.token.Token.{Token}
 use Rattle.sa_syntax.specs.declared.unit.Item.{Item}
 use Rattle.sa_syntax.specs.Words.{Names}
@@ -14,7 +15,7 @@ use Rattle.sa_syntax.specs.ReadStmt.{an_item, names_after, items_from, source}
 use Rattle.sa_syntax.specs.Trees as tree
 use Rattle.sa_syntax.specs.Refusals.{most_open, IsTooDeep, HasNoTextFrom, place_at}
 use Rattle.sa_syntax.specs.RefusalLaws.{TellsDepth, TellsPlace}
-use Rattle.sa_parser.specs.Parts.{is_end}
+use Rattle.sa_cursor.specs.Cursor.{is_end}
 
 pub items_end : (n k : ℕ) (ns : Names) (found : List Item) (ts : List Token) → is_end ts ≡ true → items_from n (suc k) ns found ts ≡ Got found ts
 unfolding items_from

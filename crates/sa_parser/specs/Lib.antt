@@ -1,5 +1,2 @@
-pub mod Outcome
-pub mod Cursor
 pub mod Parts
 pub mod Faults
-pub mod Known

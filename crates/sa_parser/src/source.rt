@@ -5,14 +5,14 @@ ghost use Rattle.sa_syntax.specs.Reading as spec;
 ghost use Rattle.sa_syntax.specs.ReadStmt as stmt;
 ghost use Rattle.sa_syntax.specs.Refusals.{IsSource};
 ghost use Rattle.sa_parser.specs.Faults.{IsFault};
-ghost use Rattle.sa_parser.specs.Outcome.{Reads};
-ghost use Rattle.sa_parser.specs.Faults as parts;
+ghost use Rattle.sa_cursor.specs.Outcome.{Reads};
+ghost use Rattle.sa_parser.specs.Parts as parts;
 
-use crate::cursor::Tokens;
-use crate::expr::Grammar;
-use crate::fault::{ParseFault, Stop};
-use crate::names::TypeNames;
+use crate::fault::ParseFault;
+use crate::unit::item;
 use sa_base::Pos;
+use sa_cursor::{Stop, Tokens, TypeNames};
+use sa_expressions::Grammar;
 use sa_syntax::{Item, Unit};
 use sa_tokens::Token;
 use sqlite_items::Items;
@@ -34,7 +34,7 @@ fn items(alloc: Global, tokens: &mut Tokens<'_>, room: usize) -> Result<Items<It
             alloc,
             names: &names,
         };
-        let item = grammar.item(tokens, room)?;
+        let item = item(&grammar, tokens, room)?;
         names.declare_item(alloc, &item)?;
         found.push(item)?;
     }

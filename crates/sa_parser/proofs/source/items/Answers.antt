@@ -2,7 +2,7 @@ use Rattle.std.proofs.Common.{rules, arith, ◌+◌, ◌-◌}
 use Rattle.std.proofs.lemmas.Grind.{common_steps}
 use Rattle.sa_syntax.specs.ReadStmt.{items_from}
 use Rattle.sa_parser.proofs.SourceLemmas.{items_end, items_go, items_out}
-use Rattle.sa_parser.proofs.Turns.{one_more, no_more}
+use Rattle.sa_cursor.proofs.Turns.{one_more, no_more}
 use Rattle.sa_parser.proofs.source.items.Goals as goal
 
 pub returns-then-is_empty : goal.returns-then-is_empty
