@@ -6,4 +6,7 @@
 //! Nothing in the walk looks into an environment but by the domain's operations.
 #![tactic(auto)]
 
+mod found;
+
+pub use found::{Found, LoopFacts};
 pub use sa_env::{Form, Term};
