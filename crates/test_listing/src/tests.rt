@@ -1,7 +1,11 @@
-//! Reports as text: each form of line, a loop that isn't reached, alarms, and a report of thousands of lines.
+//! Reports as text: each form of line, a loop that isn't reached, alarms, and reports of thousands of lines.
 
-use sa_base::{Alarm, Kind, Pos, Text};
-use sa_listing::{Line, LoopReport, OutOfMemory, Report, write_text};
+use sa_base::{Alarm, Kind, Num, Pos, Text};
+use sa_flat::{Found, LoopFacts};
+use sa_interval::Interval;
+use sa_ir::{Cell, Ir, LoopInfo};
+use sa_listing::{Line, LoopReport, OutOfMemory, Report, report, write_text};
+use sa_typed::Program;
 use sqlite_items::Items;
 use std::alloc::Global;
 use std::test::Fail;
@@ -163,5 +167,122 @@ fn loops_without_lines_and_with_thousands(rt: HostRuntime) -> Result<(), Fail> {
     assert!(rt; text.as_slice() == "loop f@1:2/3:4 not reached\nalarms 0\n".as_bytes());
     // a header of 25 bytes, 18 bytes a line, and the count of alarms in 9
     assert_eq!(rt; length_of(alloc, 65_536)?, 25 + 18 * 65_536 + 9);
+    Ok(())
+}
+
+/// So many cells, the first ones named by letters.
+fn cells(alloc: Global, count: usize) -> Result<Items<Cell>, OutOfMemory> {
+    let mut cells = Items::new(alloc);
+    for k in 0..count {
+        let name = if k == 0 {
+            "a"
+        } else if k == 1 {
+            "b"
+        } else {
+            "c"
+        };
+        cells.push(cell(Text::of(alloc, name)?))?;
+    }
+    Ok(cells)
+}
+
+fn cell(name: Text) -> Cell {
+    Cell {
+        name,
+        num: Num::I32,
+        starred: false,
+        hidden: false,
+    }
+}
+
+/// A loop that shows these cells.
+fn info(alloc: Global, name: &str, shown: &[u32]) -> Result<LoopInfo, OutOfMemory> {
+    let shown = Items::from_vec(Vec::from_slice(alloc, shown)?);
+    let name = Text::of(alloc, name)?;
+    Ok(LoopInfo { name, shown })
+}
+
+/// One loop that shows these cells, and one that shows none.
+fn infos(alloc: Global, shown: &[u32]) -> Result<Items<LoopInfo>, OutOfMemory> {
+    let mut infos = Items::new(alloc);
+    infos.push(info(alloc, "3:3", shown)?)?;
+    infos.push(info(alloc, "f@9:1/5:5", &[])?)?;
+    Ok(infos)
+}
+
+/// A lowered program of these cells and loops, and nothing else.
+fn lowered(alloc: Global, cells: Items<Cell>, loops: Items<LoopInfo>) -> Ir {
+    Ir {
+        cells,
+        loops,
+        initial: Items::new(alloc),
+        body: Items::new(alloc),
+        program: Program {
+            structs: Items::new(alloc),
+            vars: Items::new(alloc),
+            inputs: Items::new(alloc),
+            funcs: Items::new(alloc),
+            entry: 0,
+            thresholds: Items::new(alloc),
+        },
+    }
+}
+
+/// The first loop with these numbers of its cells, the second one not reached.
+fn found(alloc: Global, spans: &[Interval]) -> Result<Found, OutOfMemory> {
+    let cells = Items::from_vec(Vec::from_slice(alloc, spans)?);
+    let mut loops = Items::new(alloc);
+    loops.push(Some(facts(cells)))?;
+    loops.push(None)?;
+    Ok(Found {
+        loops,
+        alarms: Items::new(alloc),
+    })
+}
+
+fn facts(cells: Items<Interval>) -> LoopFacts {
+    LoopFacts {
+        index: 0,
+        passes: 5,
+        clock: Interval::new(0, 10),
+        cells,
+    }
+}
+
+/// The text of the report of a program with so many cells.
+fn text_of(
+    alloc: Global,
+    count: usize,
+    shown: &[u32],
+    spans: &[Interval],
+) -> Result<Vec<u8>, OutOfMemory> {
+    let ir = lowered(alloc, cells(alloc, count)?, infos(alloc, shown)?);
+    let found = found(alloc, spans)?;
+    let report = report(alloc, &ir, &found)?;
+    write_text(alloc, &report)
+}
+
+#[test]
+fn shown_cells(rt: HostRuntime) -> Result<(), Fail> {
+    let spans = [Interval::new(-1, 7), Interval::single(3)];
+    let text = text_of(rt.alloc(), 3, &[0, 2], &spans)?;
+    let want =
+        "loop 3:3 passes 5\n  clock in [0, 10]\n  a in [-1, 7]\n  c in [3, 3]\nloop f@9:1/5:5 not reached\nalarms 0\n";
+    assert!(rt; text.as_slice() == want.as_bytes());
+    Ok(())
+}
+
+#[test]
+fn as_many_cells_as_there_may_be(rt: HostRuntime) -> Result<(), Fail> {
+    let alloc = rt.alloc();
+    let mut shown = Vec::new(alloc);
+    let mut spans = Vec::new(alloc);
+    for k in 0..65_536u32 {
+        shown.push(k)?;
+        spans.push(Interval::single(3))?;
+    }
+    let text = text_of(alloc, 65_536, &shown, &spans)?;
+    // 14 bytes a cell beside what stands around them
+    assert_eq!(rt; text.len(), 18 + 19 + 14 * 65_536 + 27 + 9);
     Ok(())
 }
