@@ -56,7 +56,6 @@ impl Constant {
     }
 
     /// What `&&` and `||` give, as an `int`.
-    #[tactic(auto, using(crate::proofs::ConstantLemmas::truths))]
     fn of_truth(holds: bool) -> Constant
         ensures { result ≡ spec.truth_of holds }
     {
