@@ -18,8 +18,8 @@ use Rattle.sa_syntax.specs.declared.stmt.LocalStart.{LocalStart}
 use Rattle.sa_syntax.specs.declared.stmt.LocalStart.TheVariants as inner
 use Rattle.sa_typed.specs.Layouts.{Layout, leaf, rows, layout_with, shape_layout, layout_of, var_layout, nums}
 use Rattle.sa_typed.specs.TypedExpressions.{is_named_by}
-use Rattle.sa_typed.specs.TypedPrograms.{IsOwn}
-use Rattle.sa_typed.specs.WellTyped.{HasTypedItems, IsTypedStart, num_of_input}
+use Rattle.sa_typed.specs.TypedPrograms.{IsOwn, IsTypedBeginning}
+use Rattle.sa_typed.specs.WellTyped.{HasTypedItems, num_of_input}
 use Rattle.sa_typed.specs.declared.program.Home.{Home}
 use Rattle.sa_typed.specs.declared.program.Home.TheVariants as home
 use Rattle.sa_typed.specs.declared.program.Input.{Input}
@@ -50,10 +50,10 @@ use Rattle.sa_operands.specs.Lists.{bounds}
 use Rattle.sa_declarations.specs.Declarations.{named, var, added, variable, added_input, input, input_type, initial, global_by, global, next_global, globals, are_bare, is_struct, declared, beginning, begun_with, begun_by, begun, local_as, local_of, next_local, locals, local}
 use Rattle.sa_scopes.specs.Typing.{Typed, Typing, Gives, and_then, pure, fault, refused}
 use Rattle.sa_scopes.proofs.StructLaws.{IsFront, slice_front, slice_last, slice_cases, RefersBelow, refers_more}
-use Rattle.sa_operands.proofs.RowLaws.{IsPromotedStart, GoodStmt, AllStmts, stmts_append, simple_typed}
+use Rattle.sa_operands.proofs.RowLaws.{GoodStmt, AllStmts, stmts_append, simple_typed}
 use Rattle.sa_scopes.proofs.WalkLaws.{Ends, Later, no_fault, ElementBelow, element_more, IsThere, there_more, IsSound, Well, Leads, Any, gives, refuses, refusal, bind, next, from, here, free, also, so, either, one_of, unless, all_parts}
-use Rattle.sa_operands.proofs.OperandLaws.{GoodOperand}
-use Rattle.sa_operands.proofs.PlaceLaws.{IsIndex, index_good, shaped}
+use Rattle.sa_operands.proofs.OperandLaws.{GoodOperand, part_good}
+use Rattle.sa_operands.proofs.PlaceLaws.{shaped}
 use Rattle.sa_operands.proofs.TypeLaws.{GoodTy, shape_below, qualifiers_leads}
 use Rattle.sa_operands.proofs.ExprLaws.{expr_leads, object_type_leads, all_bounds_leads}
 use Rattle.sa_declarations.proofs.InitialLaws.{Fits, initial_leads, whole_layout, has_items, has_none}
@@ -241,20 +241,19 @@ module _ (p : Program) where
   -- ---- locals
   pub record IsBeginning (shape : Shape) (b : Beginning) : Type 0 where
     pub items : HoldsItems shape b.initial
-    pub start : (k : ℕ) (v : Var) → slice_get p.vars k ≡ Some v → v.shape ≡ shape → IsTypedStart p k b.start
-    pub promoted : IsPromotedStart b.start
+    pub start : (k : ℕ) (v : Var) → slice_get p.vars k ≡ Some v → v.shape ≡ shape → IsTypedBeginning p 0 k b.start
 
   scalar_layout : (k : ℕ) (v : Var) (num : Num) → slice_get p.vars k ≡ Some v → v.shape ≡ shaped [] (Scalar num) → layout_of p k ≡ leaf num
   unfolding layout_with rows
   scalar_layout k v num h e = whole_layout p k v h ∙ ap (shape_layout p.structs) e
 
   any_beginning : (shape : Shape) → IsBeginning shape (beginning start.Any [])
-  any_beginning shape = record { items = holds_none shape; start = λ k v h e. tt; promoted = tt }
+  any_beginning shape = record { items = holds_none shape; start = λ k v h e. tt }
 
   begun_with_leads : (q r : Pos) (ns : List ℕ) (t : Plain) (x : Operand) (s : Typer) → Leads p (GoodOperand p x) s (λ b u. IsBeginning (shaped ns t) b) (begun_with q r (form_by ns t) x s)
   begun_with_leads q r [] (Scalar num) x s =
       next (unless (is_object (sort_of x)) 5 q)
-      (λ a t. gives (λ w h e. let i = index_good p x h.0 h.1 in record { items = holds_none (shaped [] (Scalar num)); start = λ k v g f. (i.typed.0, (num, scalar_layout k v num g f)); promoted = i.typed.1 }))
+      (λ a t. gives (λ w h e. let i = part_good p x h.0 h.1 in record { items = holds_none (shaped [] (Scalar num)); start = λ k v g f. (i.typed, (num, scalar_layout k v num g f)) }))
   begun_with_leads q r [] (Struct k) x s = refuses 20 r
   begun_with_leads q r (n ∷ ns) t x s = refuses 20 r
 
@@ -262,7 +261,7 @@ module _ (p : Program) where
   unfolding inits.out-Init denote.Hole.Carrier.out
   begun_by_leads q shape (Value e) s = next (free (expr_leads p e s)) (λ x t. from (λ h. h.1) (begun_with_leads q (expr_pos e) shape.dims shape.plain x t))
   begun_by_leads q shape (Braces' r n is) s =
-      next (values_leads (Braces' r n is) shape s) (λ zs t. gives (λ w h e. record { items = h.1; start = λ k v g f. tt; promoted = tt }))
+      next (values_leads (Braces' r n is) shape s) (λ zs t. gives (λ w h e. record { items = h.1; start = λ k v g f. tt }))
 
   begun_leads : (shape : Shape) (b : LocalStart) (s : Typer) → Leads p (RefersBelow (length s.structs.defs) shape) s (λ b t. IsBeginning shape b) (begun shape b s)
   unfolding begun
@@ -278,7 +277,7 @@ module _ (p : Program) where
   local_as_leads : (ty : Ty) (x : Name) (shape : Shape) (b : Beginning) (s : Typer) → Leads p (IsBegun s shape b) s (λ a t. GoodStmt p a) (local_as ty x shape b s)
   local_as_leads ty x shape b s =
       next (from (λ h. record { below = h.below; stays = refl; items = h.begins.items }) (variable_leads x shape (home.Local 0) ty.constant b.initial s))
-      (λ k t. gives (λ w h e. simple_typed p (simply.Declare k b.start) (h.0.begins.start k (var x shape (home.Local 0) ty.constant b.initial) h.1 refl, (subst (IsOwn 0) (sym h.1) refl, h.0.begins.promoted))))
+      (λ k t. gives (λ w h e. simple_typed p (simply.Declare k b.start) (subst (IsOwn 0) (sym h.1) refl, h.0.begins.start k (var x shape (home.Local 0) ty.constant b.initial) h.1 refl)))
 
   local_of_leads : (ty : Ty) (d : LocalDeclr) (s : Typer) → Leads p (GoodTy ty s) s (λ a t. GoodStmt p a) (local_of ty d s)
   unfolding local_of

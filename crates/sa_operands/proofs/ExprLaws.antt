@@ -12,7 +12,6 @@ use Rattle.sa_syntax.specs.declared.expr.Operator.{Operator}
 use Rattle.sa_syntax.specs.declared.expr.Place.{Place, out-Place}
 use Rattle.sa_syntax.specs.declared.expr.Step.{Step, Index', Field, Arrow}
 use Rattle.sa_typed.specs.declared.program.Program.{Program}
-use Rattle.sa_scopes.specs.declared.constant.Value.TheVariants.{Varies}
 use Rattle.sa_operands.specs.declared.operand.Left.{Left}
 use Rattle.sa_operands.specs.declared.operand.Operand.{Operand}
 use Rattle.sa_operands.specs.declared.operand.Spot.{Spot}
@@ -28,7 +27,7 @@ use Rattle.sa_operands.specs.Lists as list
 use Rattle.sa_scopes.specs.Typing.{Typed, Typing, Gives, and_then, pure}
 use Rattle.sa_scopes.proofs.StructLaws.{FieldsBelow, fields_more}
 use Rattle.sa_scopes.proofs.WalkLaws.{Ends, Later, element_more, Well, Leads, Any, gives, refuses, refusal, bind, next, from, free, so, either, unless, all_parts}
-use Rattle.sa_operands.proofs.OperandLaws.{GoodOperand, GoodLeft, stand_in_good, literal_good, beside_leads, prefixed_leads, cast_leads, left_good, linked_leads, chained_good}
+use Rattle.sa_operands.proofs.OperandLaws.{GoodOperand, GoodLeft, literal_good, beside_leads, prefixed_leads, cast_leads, left_good, linked_leads, chained_good, choice_leads}
 use Rattle.sa_operands.proofs.PlaceLaws as place
 use Rattle.sa_operands.proofs.PlaceLaws.{GoodSpot, begins_leads, index_leads, arrow_leads, operand_good}
 use Rattle.sa_operands.proofs.TypeLaws.{GoodTy, GoodFields, qualifiers_leads, scalar_leads, tagged_leads, name_leads, whole_leads, object_leads, dimension_leads, field_leads, opened_leads, closed_leads}
@@ -60,7 +59,8 @@ module _ (p : Program) where
         next (qualifiers_leads p false true qs s) (λ a t. next (object_leads p r qs (base_type r b) t (free (base_leads r b t))) (λ ty u. next (free (expr_leads x u)) (λ y v. from (λ h. h.1) (cast_leads p q ty.element y v))))
     expr_leads (Chain' m (more_of-Expr x end_of-Expr) n row) s =
         next (free (expr_leads x s)) (λ first t. next (first_leads row x t) (λ a u. next (from (λ h. left_good p first h.0.1) (links_leads row (left_of first) u)) (λ l v. gives (λ w h e. chained_good p l h.1))))
-    expr_leads (Choice' l x q m y n z) s = gives (λ w h e. stand_in_good p Varies)
+    expr_leads (Choice' l (more_of-Expr x end_of-Expr) q m (more_of-Expr y end_of-Expr) n (more_of-Expr z end_of-Expr)) s =
+        next (free (expr_leads x s)) (λ c t. next (free (expr_leads y t)) (λ i u. next (free (expr_leads z u)) (λ j v. from (λ h. (h.0.0.1, (h.0.1, h.1))) (choice_leads p q c i j v))))
 
     pub links_leads : {n : _} (row : Row_of-Link n) (l : Left) (s : Typer) → Leads p (GoodLeft p l) s (λ l t. GoodLeft p l) (links row l s)
     links_leads end_of-Link l s = gives (λ w h e. h)

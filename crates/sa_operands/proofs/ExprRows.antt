@@ -27,7 +27,7 @@ use Rattle.sa_scopes.specs.declared.types.Element.TheVariants as el
 use Rattle.sa_scopes.specs.declared.types.Ty.{Ty}
 use Rattle.sa_scopes.specs.Types as types
 use Rattle.sa_scopes.specs.Types.{qualifiers, object, plain}
-use Rattle.sa_operands.specs.Operands.{some_number, literal, beside, prefix_of, prefixed, cast, left_of, linked, chained}
+use Rattle.sa_operands.specs.Operands.{literal, beside, prefix_of, prefixed, cast, left_of, linked, chained, choice}
 use Rattle.sa_operands.specs.Places as place
 use Rattle.sa_operands.specs.Definitions as def
 use Rattle.sa_operands.specs.Definitions.{no_fields}
@@ -88,8 +88,8 @@ pub expr-Prefix : (op : Prefix) (p : Pos) (x : Expr) (s : Typer) → expr (v.Pre
 unfolding expr Rattle.sa_syntax.specs.declared.decl.Base.TheBlock.hidden-the_row-Expr-1 denote.Hole.Carrier.hidden
 expr-Prefix op p x s = refl
 
-pub expr-Choice : (x : Expr) (p : Pos) (y z : Expr) (s : Typer) → expr (v.Choice x p y z) s ≡ Gives some_number s
-unfolding expr
+pub expr-Choice : (x : Expr) (p : Pos) (y z : Expr) (s : Typer) → expr (v.Choice x p y z) s ≡ (expr x >>= (λ c. expr y >>= (λ y. expr z >>= (λ z. choice p c y z)))) s
+unfolding expr Rattle.sa_syntax.specs.declared.decl.Base.TheBlock.hidden-the_row-Expr-1 denote.Hole.Carrier.hidden
 expr-Choice x p y z s = refl
 
 pub expr-Cast : (p : Pos) (ty : Specifiers) (x : Expr) (s : Typer) →

@@ -12,7 +12,7 @@ use Rattle.sa_syntax.specs.declared.expr.PlaceBase.TheVariants as base
 use Rattle.sa_typed.specs.Constants.{is_constant, is_fixed}
 use Rattle.sa_typed.specs.Layouts.{Layout, Layouts, leaf, row, fields, rows, layout_with, layouts_with, nth_field, struct_layout, shape_layout, layout_of, var_layout}
 use Rattle.sa_typed.specs.TypedExpressions.{is_named_by, IsNamed, IsVariable}
-use Rattle.sa_typed.specs.WellTyped.{typed_step, into, num_of_input, IsTypedExpr, IsTypedStep, IsTypedAccess, IsFixedAccess, is_fixed_read}
+use Rattle.sa_typed.specs.WellTyped.{typed_step, into, num_of_input, is_fixed_read}
 use Rattle.sa_typed.specs.declared.expr.Access.{Access}
 use Rattle.sa_typed.specs.declared.expr.Expr.{Expr}
 use Rattle.sa_typed.specs.declared.expr.Expr.TheVariants as e
@@ -41,13 +41,13 @@ use Rattle.sa_scopes.specs.declared.form.Form.TheVariants as form
 use Rattle.sa_scopes.specs.Forms.{form_by, form_of, inside, form_inside}
 use Rattle.sa_scopes.specs.Structures.{Structs, fields_in, member_by, member_at, member_in, member_of}
 use Rattle.sa_scopes.specs.Values as values
-use Rattle.sa_operands.specs.Operands.{sort_of, is_object, known_value, expr_or}
+use Rattle.sa_operands.specs.Operands.{sort_of, is_object, known_value, expr_or, num_or}
 use Rattle.sa_operands.specs.Places.{root_by, root_of, pointed_by, pointed, spot_at, variable_at, spot_of, begun, begins, lost, deeper, stepped, indexed_with, element_of, index, to_member, field_of, field, is_known, arrow, var_of, access_of, access, reading, operand_by, operand}
 use Rattle.sa_scopes.specs.Typing.{Typed, Typing, Gives, and_then, pure, refused}
 use Rattle.sa_scopes.proofs.StructLaws.{FieldsBelow, struct_known}
-use Rattle.sa_operands.proofs.RowLaws.{AllSteps, list_layout, all_fixed, steps_append, layout_append, fixed_append, GoodExpr, GoodStep, read_typed, access_typed, access_promoted, access_named, access_fixed, at_typed, field_typed, at_fixed, field_fixed, input_typed, type_input, type_read}
+use Rattle.sa_operands.proofs.RowLaws.{AllSteps, list_layout, all_fixed, steps_append, layout_append, fixed_append, GoodExpr, GoodStep, read_typed, access_typed, access_fixed, at_typed, field_typed, at_fixed, field_fixed, input_typed, type_input, type_read}
 use Rattle.sa_scopes.proofs.WalkLaws.{Ends, Later, Well, IsThere, Leads, Any, gives, refuses, refusal, bind, next, from, so, either, unless}
-use Rattle.sa_operands.proofs.OperandLaws.{IsGood, LeadsTo, GoodOperand, struct_in}
+use Rattle.sa_operands.proofs.OperandLaws.{IsGood, LeadsTo, GoodOperand, struct_in, part_good}
 
 -- ---- promises
 abbrev pub scalar_by : Form → Option Num
@@ -190,16 +190,6 @@ module _ (p : Program) where
       (one_further k l.steps (shape_layout p.structs shape) (shape_layout p.structs inner) l.fixed m.fixed l.locked m.locked x h t s f g)
   stepped_good l m (root.Input k num) shape inner x e n t s f g h = let c = h.scalar in cc (n, c)
 
-  pub record IsIndex (i : Operand) : Type 0 where
-    pub typed : GoodExpr p (expr_or i)
-    pub constant : values.is_constant (known_value i) ≡ true → is_constant (expr_or i) ≡ true
-
-  pub index_good : (i : Operand) → GoodOperand p i → is_object (sort_of i) ≡ false → IsIndex i
-  index_good (a.Number x num w) h o = record { typed = h.typed; constant = h.constant }
-  index_good (a.Struct x k fixed q) h o = cc
-  index_good (a.Array q) h o = cc
-  index_good a.Unknown h o = absurd h
-
   row_step : (n : ℕ) (m : Layout) (q : Pos) (x : Expr) → typed_step (row n m) (step.At q n x) ≡ Some m
   unfolding Rattle.sa_typed.specs.declared.expr.Expr.TheBlock.hidden-the_row-Expr-1 denote.Hole.Carrier.hidden
   row_step n m q x = let t : (n == n) ≡ true = grind (arith, nat_tests) in rw t refl
@@ -221,7 +211,7 @@ module _ (p : Program) where
 
   -- given the dimensions that are left
   element_by : (q : Pos) (i : Operand) (shape : Shape) (d : ℕ) (l : Spot) (ns : List ℕ) (t : Plain) (s : Typer) → drop d shape.dims ≡ ns → shape.plain ≡ t →
-      Leads p (IsIndex i × IsAt p l l.root (Some (shaped ns t))) s (λ l t. GoodSpot p l) (element_of q (expr_or i) (Some (form_by ns t)) (indexed_with i (record l { shape = Some shape; depth = d })) s)
+      Leads p (IsGood p (expr_or i) (num_or i) (known_value i) × IsAt p l l.root (Some (shaped ns t))) s (λ l t. GoodSpot p l) (element_of q (expr_or i) (Some (form_by ns t)) (indexed_with i (record l { shape = Some shape; depth = d })) s)
   element_by q i shape d l [] (Scalar num) s e g = refuses 5 q
   element_by q i shape d l [] (Struct k) s e g = refuses 5 q
   element_by q i shape d l (n ∷ ns) t s e g =
@@ -234,13 +224,13 @@ module _ (p : Program) where
       (λ f. (and_first l.fixed (values.is_constant (known_value i)) f, at_fixed q n (expr_or i) ∙ h.0.constant (and_rest l.fixed (values.is_constant (known_value i)) f))) (λ g. g) h.1))
 
   element_leads : (q : Pos) (i : Operand) (o : Option Shape) (d : ℕ) (l : Spot) (s : Typer) →
-      Leads p (IsIndex i × IsAt p l l.root (there o d)) s (λ l t. GoodSpot p l) (element_of q (expr_or i) (form_inside o d) (indexed_with i (record l { shape = o; depth = d })) s)
+      Leads p (IsGood p (expr_or i) (num_or i) (known_value i) × IsAt p l l.root (there o d)) s (λ l t. GoodSpot p l) (element_of q (expr_or i) (form_inside o d) (indexed_with i (record l { shape = o; depth = d })) s)
   element_leads q i None d l s = gives (λ w x e. let h = known_shape l l.root None x.1 in cc)
   element_leads q i (Some shape) d l s = element_by q i shape d l (drop d shape.dims) shape.plain s refl refl
 
   pub index_leads : (q : Pos) (i : Operand) (l : Spot) (s : Typer) → Leads p (GoodOperand p i × GoodSpot p l) s (λ l t. GoodSpot p l) (index q i l s)
   unfolding index
-  index_leads q i l s = next (unless (is_object (sort_of i)) 5 q) (λ a t. from (λ h. (index_good i h.0.0 h.1, h.0.1)) (element_leads q i l.shape l.depth l t))
+  index_leads q i l s = next (unless (is_object (sort_of i)) 5 q) (λ a t. from (λ h. (part_good p i h.0.0 h.1, h.0.1)) (element_leads q i l.shape l.depth l t))
 
   -- ---- fields
   nth_known : (f : ℕ → Layout) (fs : List FieldDef) (i : ℕ) (d : FieldDef) → slice_get fs i ≡ Some d → nth_field (layouts_with f fs) i ≡ Some (layout_with f d.shape)
@@ -319,12 +309,12 @@ module _ (p : Program) where
 
   -- ---- the whole place
   access_good : (k : ℕ) (steps : List Step) (l : Layout) (fixed locked : Bool) → IsPlace p k steps l fixed locked → LeadsTo p l fixed (access_of (root.Variable k) steps)
-  access_good k steps l fixed locked h = record { typed = access_typed p k steps l h.typed h.leads; named = access_named p k steps h.named; promoted = access_promoted p k steps h.typed; constant = λ f. access_fixed k steps (h.constant f) }
+  access_good k steps l fixed locked h = record { place = access_typed p k steps l h.typed h.leads h.named; constant = λ f. access_fixed k steps (h.constant f) }
 
   operand_by_leads : (l : Spot) (r : Root) (ns : List ℕ) (t : Plain) → IsAt p l r (Some (shaped ns t)) → GoodOperand p (operand_by (record l { root = r }) (Some (form_by ns t)))
   unfolding layout_with rows
   operand_by_leads l root.Nothing ns t h = absurd h
-  operand_by_leads l (root.Variable k) [] (Scalar num) h = record { typed = read_typed p k l.steps num h.typed h.leads; is = type_read (access_of (root.Variable k) l.steps) num; constant = λ c. cc }
+  operand_by_leads l (root.Variable k) [] (Scalar num) h = record { typed = read_typed p k l.steps num h.typed h.leads h.named; is = type_read (access_of (root.Variable k) l.steps) num; constant = λ c. cc }
   operand_by_leads l (root.Variable k) [] (Struct j) h = access_good k l.steps (struct_in p j) l.fixed l.locked h
   operand_by_leads l (root.Variable k) (n ∷ ns) t h = tt
   operand_by_leads l (root.Input k num) [] (Scalar m) h = record { typed = input_typed p k m (h.there ∙ sym h.scalar); is = type_input k m; constant = λ c. cc }

@@ -1,17 +1,18 @@
--- Steps, links and statements as lists that grow at their ends, and what typing promises of the forms that hold them.
+-- Steps, links, operands and statements as lists that grow at their ends, and what typing promises of the forms that hold them.
 use Rattle.std.proofs.Common.{◌≡◌, ℕ, zero, suc, ℤ, pos, Bool, true, false, ◌&&◌, List, [], ◌∷◌, ◌++◌, refl, sym, ap, subst, ◌∙◌, Option, Some, None}
+use Rattle.std.specs.List.{AllByRecursion}
 use Rattle.std.specs.Prelude.{IsTrue, slice_get}
 use Rattle.sa_base.specs.declared.num.Num.{Num}
 use Rattle.sa_base.specs.declared.num.Num.TheVariants.{I32}
 use Rattle.sa_base.specs.declared.pos.Pos.{Pos}
 use Rattle.sa_typed.specs.Arithmetic.{is_of, promoted, result_type, prefix_type}
-use Rattle.sa_typed.specs.Constants.{is_constant, are_constant, is_fixed}
+use Rattle.sa_typed.specs.Constants.{is_constant, are_constant, all_are_constant, is_fixed}
 use Rattle.sa_typed.specs.Layouts.{Layout, leaf, row, fields, nth_field, layout_of}
-use Rattle.sa_typed.specs.WellTyped.{type_of, links_type, converts, typed_step, into, steps_layout, num_of_input, IsLink, IsTypedExpr, AreTypedLinks, AreTypedSteps, IsTypedStep, are_fixed, is_fixed_read, IsRead, IsTypedAccess, IsFixedAccess, IsTypedSimple, IsTypedStmt, AreTypedStmts}
-use Rattle.sa_typed.specs.TypedExpressions.{IsPromoted, ArePromotedLinks, ArePromotedSteps, IsPromotedStep, IsNamed, IsVariable, ChangesVariable}
-use Rattle.sa_typed.specs.TypedPrograms.{IsOwn}
+use Rattle.sa_typed.specs.WellTyped.{type_of, links_type, converts, typed_step, into, steps_layout, num_of_input, IsLink, are_fixed, is_fixed_read}
+use Rattle.sa_typed.specs.TypedExpressions.{IsTypedExpression, AreTypedExpressions, AreSomeTyped, AreTypedLinks, AreTypedSteps, IsTypedStep, IsTypedPlace, IsPromoted, ArePromoted, ArePromotedLinks, ArePromotedSteps, IsPromotedStep, variables_in, variables_in_all, variables_in_links, variables_in_steps, variables_in_step, IsNamed, AreNamed, IsExpression, IsPlace, IsVariable, ChangesVariable, IsLeftSide}
+use Rattle.sa_typed.specs.TypedPrograms.{IsOwn, IsTypedBeginning}
 use Rattle.sa_typed.specs.declared.expr.Access.{Access, roll-Access}
-use Rattle.sa_typed.specs.declared.expr.Expr.{Expr, Number, Read', Input, Prefix', Cast', Chain', end_of-Expr, more_of-Expr, Row_of-Link, end_of-Link, more_of-Link, items-the_row-Link, items_hidden-the_row-Link-2, Row_of-Step, end_of-Step, more_of-Step, items-the_row-Step, items_hidden-the_row-Step-0}
+use Rattle.sa_typed.specs.declared.expr.Expr.{Expr, Number, Read', Input, Prefix', Cast', Chain', And', Or', Choice', end_of-Expr, more_of-Expr, Row_of-Expr, items-the_row-Expr, items_hidden-the_row-Expr-3, Row_of-Link, end_of-Link, more_of-Link, items-the_row-Link, items_hidden-the_row-Link-2, Row_of-Step, end_of-Step, more_of-Step, items-the_row-Step, items_hidden-the_row-Step-0}
 use Rattle.sa_typed.specs.declared.expr.Expr.TheVariants as v
 use Rattle.sa_typed.specs.declared.expr.Link.{Link, out-Link}
 use Rattle.sa_typed.specs.declared.expr.Operator.{Operator}
@@ -28,12 +29,21 @@ use Rattle.sa_typed.specs.declared.stmt.LoopKind.TheVariants as kind
 use Rattle.sa_typed.specs.declared.stmt.Stmt.{Stmt, Row_of-Stmt, end_of-Stmt, more_of-Stmt, items-the_row-Stmt, items_hidden-the_row-Stmt-0}
 use Rattle.sa_typed.specs.declared.stmt.Stmt.TheVariants as s
 
--- typed, and with operators before operands in promoted types
+-- typed, with operators before operands in promoted types, and with variables that main may name
 abbrev pub GoodExpr : Program → Expr → Type 0
-GoodExpr p a = IsTypedExpr p a × IsPromoted a
+GoodExpr p a = IsExpression p 0 a
 
-abbrev pub GoodStep : Program → Step → Type 0
-GoodStep p x = IsTypedStep p x × IsPromotedStep x
+pub record GoodStep (p : Program) (x : Step) : Type 0 where
+  pub typed : IsTypedStep p x
+  pub promoted : IsPromotedStep x
+  pub named : AreNamed p 0 (variables_in_step x)
+
+all_both : {A : Type 0} (P : A → Type 0) (xs ys : List A) → AllByRecursion P xs → AllByRecursion P ys → AllByRecursion P (xs ++ ys)
+all_both P [] ys h k = k
+all_both P (x ∷ xs) ys h k = (h.0, all_both P xs ys h.1 k)
+
+named_both : (p : Program) (vs ws : List ℕ) → AreNamed p 0 vs → AreNamed p 0 ws → AreNamed p 0 (vs ++ ws)
+named_both p vs ws h k = all_both (λ v. IsNamed 0 (slice_get p.vars v)) vs ws h k
 
 -- ---- steps
 unfoldable pub AllSteps : Program → List Step → Type 0
@@ -74,15 +84,17 @@ unfolding all_fixed
 fixed_append [] x h k = both_fixed (is_fixed x) true k refl
 fixed_append (y ∷ xs) x h k = both_fixed (is_fixed y) (all_fixed (xs ++ x ∷ [])) (fixed_first (is_fixed y) (all_fixed xs) h) (fixed_append xs x (fixed_rest (is_fixed y) (all_fixed xs) h) k)
 
-steps_row : (p : Program) (n : _) (r : Row_of-Step n) → AllSteps p (items-the_row-Step n r) → AreTypedSteps p r
-unfolding AllSteps IsTypedExpr
-steps_row p n end_of-Step h = tt
-steps_row p n (more_of-Step x rest) h = (h.0.0, steps_row p _ rest h.1)
+record GoodSteps (p : Program) {n : _} (r : Row_of-Step n) : Type 0 where
+  typed : AreTypedSteps p r
+  promoted : ArePromotedSteps r
+  named : AreNamed p 0 (variables_in_steps r)
 
-promoted_row : (p : Program) (n : _) (r : Row_of-Step n) → AllSteps p (items-the_row-Step n r) → ArePromotedSteps r
-unfolding AllSteps IsPromoted
-promoted_row p n end_of-Step h = tt
-promoted_row p n (more_of-Step x rest) h = (h.0.1, promoted_row p _ rest h.1)
+steps_row : (p : Program) (n : _) (r : Row_of-Step n) → AllSteps p (items-the_row-Step n r) → GoodSteps p r
+unfolding AllSteps IsTypedExpression IsPromoted variables_in
+steps_row p n end_of-Step h = record { typed = tt; promoted = tt; named = tt }
+steps_row p n (more_of-Step x rest) h =
+    let k = steps_row p _ rest h.1 in
+    record { typed = (h.0.typed, k.typed); promoted = (h.0.promoted, k.promoted); named = named_both p (variables_in_step x) (variables_in_steps rest) h.0.named k.named }
 
 layout_row : (n : _) (r : Row_of-Step n) (o : Option Layout) → steps_layout o r ≡ list_layout o (items-the_row-Step n r)
 unfolding steps_layout list_layout
@@ -99,49 +111,44 @@ steps_of (Read' v n r num) = (_, r)
 steps_of _ = (_, end_of-Step)
 
 module _ (p : Program) where
-  pub read_typed : (k : ℕ) (xs : List Step) (num : Num) → AllSteps p xs → list_layout (Some (layout_of p k)) xs ≡ Some (leaf num) → GoodExpr p (v.Read (roll-Access (record { var = k; steps = xs })) num)
-  unfolding IsTypedExpr IsPromoted
-  read_typed k xs num h e =
-      let r = steps_of (v.Read (roll-Access (record { var = k; steps = xs })) num) in
-      let all = subst (AllSteps p) (sym (items_hidden-the_row-Step-0 xs)) h in
-      ((steps_row p r.0 r.1 all, layout_row r.0 r.1 (Some (layout_of p k)) ∙ ap (list_layout (Some (layout_of p k))) (items_hidden-the_row-Step-0 xs) ∙ e), promoted_row p r.0 r.1 all)
-
-  pub access_typed : (k : ℕ) (xs : List Step) (l : Layout) → AllSteps p xs → list_layout (Some (layout_of p k)) xs ≡ Some l → IsTypedAccess p l (roll-Access (record { var = k; steps = xs }))
-  unfolding IsTypedExpr
-  access_typed k xs l h e =
+  place_row : (k : ℕ) (xs : List Step) → AllSteps p xs → GoodSteps p (steps_of (v.Read (roll-Access (record { var = k; steps = xs })) I32)).1
+  place_row k xs h =
       let r = steps_of (v.Read (roll-Access (record { var = k; steps = xs })) I32) in
-      (steps_row p r.0 r.1 (subst (AllSteps p) (sym (items_hidden-the_row-Step-0 xs)) h), layout_row r.0 r.1 (Some (layout_of p k)) ∙ ap (list_layout (Some (layout_of p k))) (items_hidden-the_row-Step-0 xs) ∙ e)
+      steps_row p r.0 r.1 (subst (AllSteps p) (sym (items_hidden-the_row-Step-0 xs)) h)
 
-pub access_promoted : (p : Program) (k : ℕ) (xs : List Step) → AllSteps p xs → IsPromoted (v.Read (roll-Access (record { var = k; steps = xs })) I32)
-unfolding IsPromoted
-access_promoted p k xs h = let r = steps_of (v.Read (roll-Access (record { var = k; steps = xs })) I32) in promoted_row p r.0 r.1 (subst (AllSteps p) (sym (items_hidden-the_row-Step-0 xs)) h)
+  pub access_typed : (k : ℕ) (xs : List Step) (l : Layout) → AllSteps p xs → list_layout (Some (layout_of p k)) xs ≡ Some l → IsNamed 0 (slice_get p.vars k) →
+      IsPlace p 0 l (roll-Access (record { var = k; steps = xs }))
+  unfolding IsTypedExpression IsPromoted variables_in
+  access_typed k xs l h e m =
+      let r = steps_of (v.Read (roll-Access (record { var = k; steps = xs })) I32) in
+      let g = place_row k xs h in
+      record {
+        typed = (g.typed, layout_row r.0 r.1 (Some (layout_of p k)) ∙ ap (list_layout (Some (layout_of p k))) (items_hidden-the_row-Step-0 xs) ∙ e);
+        promoted = g.promoted;
+        named = (m, g.named);
+      }
+
+  pub read_typed : (k : ℕ) (xs : List Step) (num : Num) → AllSteps p xs → list_layout (Some (layout_of p k)) xs ≡ Some (leaf num) → IsNamed 0 (slice_get p.vars k) →
+      GoodExpr p (v.Read (roll-Access (record { var = k; steps = xs })) num)
+  unfolding IsTypedExpression IsPromoted variables_in
+  read_typed k xs num h e m = let g = access_typed k xs (leaf num) h e m in record { typed = g.typed; promoted = g.promoted; named = g.named }
 
 pub access_fixed : (k : ℕ) (xs : List Step) → all_fixed xs ≡ true → is_fixed_read (v.Read (roll-Access (record { var = k; steps = xs })) I32) ≡ true
 access_fixed k xs h = let r = steps_of (v.Read (roll-Access (record { var = k; steps = xs })) I32) in fixed_row r.0 r.1 ∙ ap all_fixed (items_hidden-the_row-Step-0 xs) ∙ h
 
--- the variable of an access is one that main may name
-abbrev pub NamesVariable : Program → Expr → Type 0
-NamesVariable p (Read' v n steps num) = IsNamed 0 (slice_get p.vars v)
-NamesVariable p _ = ⊥
-
 module _ (p : Program) (k : ℕ) (xs : List Step) where
-  pub access_named : IsNamed 0 (slice_get p.vars k) → NamesVariable p (v.Read (roll-Access (record { var = k; steps = xs })) I32)
-  unfolding IsTypedExpr
-  access_named h = h
-
   pub access_changes : IsVariable (slice_get p.vars k) → ChangesVariable p (v.Read (roll-Access (record { var = k; steps = xs })) I32)
-  unfolding IsTypedExpr
   access_changes h = h
 
 -- each form of a step
 module _ (p : Program) where
   pub at_typed : (q : Pos) (n : ℕ) (a : Expr) → GoodExpr p a → GoodStep p (step.At q n a)
-  unfolding IsTypedExpr IsPromoted Rattle.sa_typed.specs.declared.expr.Expr.TheBlock.hidden-the_row-Expr-1 denote.Hole.Carrier.hidden
-  at_typed q n a h = h
+  unfolding IsTypedExpression IsPromoted variables_in Rattle.sa_typed.specs.declared.expr.Expr.TheBlock.hidden-the_row-Expr-1 denote.Hole.Carrier.hidden
+  at_typed q n a h = record { typed = h.typed; promoted = h.promoted; named = h.named }
 
   pub field_typed : (k : ℕ) → GoodStep p (step.Field k)
-  unfolding IsTypedExpr IsPromoted
-  field_typed k = (tt, tt)
+  unfolding IsTypedExpression IsPromoted variables_in
+  field_typed k = record { typed = tt; promoted = tt; named = tt }
 
 pub at_fixed : (q : Pos) (n : ℕ) (a : Expr) → is_fixed (step.At q n a) ≡ is_constant a
 unfolding is_fixed Rattle.sa_typed.specs.declared.expr.Expr.TheBlock.hidden-the_row-Expr-1 denote.Hole.Carrier.hidden
@@ -182,15 +189,17 @@ constant_append (y ∷ xs) x h k =
     both_fixed (is_constant (out-Link y).operand) (all_constant (xs ++ x ∷ [])) (fixed_first (is_constant (out-Link y).operand) (all_constant xs) h)
     (constant_append xs x (fixed_rest (is_constant (out-Link y).operand) (all_constant xs) h) k)
 
-links_row : (p : Program) (n : _) (r : Row_of-Link n) (left : Num) → AllLinks p left (items-the_row-Link n r) → AreTypedLinks p left r
-unfolding AllLinks IsTypedExpr
-links_row p n end_of-Link left h = tt
-links_row p n (more_of-Link op q work b rest) left h = (h.0.0, (h.1.0, links_row p _ rest (result_type op work) h.1.1))
+record GoodLinks (p : Program) (left : Num) {n : _} (r : Row_of-Link n) : Type 0 where
+  typed : AreTypedLinks p left r
+  promoted : ArePromotedLinks r
+  named : AreNamed p 0 (variables_in_links r)
 
-promoted_links_row : (p : Program) (n : _) (r : Row_of-Link n) (left : Num) → AllLinks p left (items-the_row-Link n r) → ArePromotedLinks r
-unfolding AllLinks IsPromoted
-promoted_links_row p n end_of-Link left h = tt
-promoted_links_row p n (more_of-Link op q work b rest) left h = (h.0.1, promoted_links_row p _ rest (result_type op work) h.1.1)
+links_row : (p : Program) (n : _) (r : Row_of-Link n) (left : Num) → AllLinks p left (items-the_row-Link n r) → GoodLinks p left r
+unfolding AllLinks IsTypedExpression IsPromoted variables_in
+links_row p n end_of-Link left h = record { typed = tt; promoted = tt; named = tt }
+links_row p n (more_of-Link op q work b rest) left h =
+    let k = links_row p _ rest (result_type op work) h.1.1 in
+    record { typed = (h.0.typed, (h.1.0, k.typed)); promoted = (h.0.promoted, k.promoted); named = named_both p (variables_in b) (variables_in_links rest) h.0.named k.named }
 
 after_row : (n : _) (r : Row_of-Link n) (left : Num) → links_type left r ≡ after_links left (items-the_row-Link n r)
 unfolding links_type after_links
@@ -206,30 +215,119 @@ abbrev links_of : Expr → (n : _) × Row_of-Link n
 links_of (Chain' n a m ls) = (_, ls)
 links_of _ = (_, end_of-Link)
 
+-- ---- operands of `&&` and `||`
+unfoldable pub AllOperands : Program → List Expr → Type 0
+AllOperands p [] = Unit {0}
+AllOperands p (x ∷ xs) = GoodExpr p x × AllOperands p xs
+
+-- one at least
+abbrev pub SomeOperands : Program → List Expr → Type 0
+SomeOperands p [] = ⊥
+SomeOperands p (x ∷ xs) = GoodExpr p x × AllOperands p xs
+
+unfoldable pub operands_constant : List Expr → Bool
+operands_constant [] = true
+operands_constant (x ∷ xs) = is_constant x && operands_constant xs
+
+operands_append : (p : Program) (xs : List Expr) (x : Expr) → AllOperands p xs → GoodExpr p x → AllOperands p (xs ++ x ∷ [])
+unfolding AllOperands
+operands_append p [] x h k = (k, tt)
+operands_append p (y ∷ xs) x h k = (h.0, operands_append p xs x h.1 k)
+
+pub some_first : (p : Program) (x : Expr) → GoodExpr p x → SomeOperands p (x ∷ [])
+unfolding AllOperands
+some_first p x k = (k, tt)
+
+pub some_append : (p : Program) (xs : List Expr) (x : Expr) → SomeOperands p xs → GoodExpr p x → SomeOperands p (xs ++ x ∷ [])
+some_append p [] x h k = absurd h
+some_append p (y ∷ xs) x h k = (h.0, operands_append p xs x h.1 k)
+
+pub operands_constant_append : (xs : List Expr) (x : Expr) → operands_constant xs ≡ true → is_constant x ≡ true → operands_constant (xs ++ x ∷ []) ≡ true
+unfolding operands_constant
+operands_constant_append [] x h k = both_fixed (is_constant x) true k refl
+operands_constant_append (y ∷ xs) x h k =
+    both_fixed (is_constant y) (operands_constant (xs ++ x ∷ [])) (fixed_first (is_constant y) (operands_constant xs) h) (operands_constant_append xs x (fixed_rest (is_constant y) (operands_constant xs) h) k)
+
+record GoodOperands (p : Program) {n : _} (r : Row_of-Expr n) : Type 0 where
+  typed : AreTypedExpressions p r
+  promoted : ArePromoted r
+  named : AreNamed p 0 (variables_in_all r)
+
+record GoodSome (p : Program) {n : _} (r : Row_of-Expr n) : Type 0 where
+  typed : AreSomeTyped p r
+  promoted : ArePromoted r
+  named : AreNamed p 0 (variables_in_all r)
+
+operands_row : (p : Program) (n : _) (r : Row_of-Expr n) → AllOperands p (items-the_row-Expr n r) → GoodOperands p r
+unfolding AllOperands IsTypedExpression IsPromoted variables_in
+operands_row p n end_of-Expr h = record { typed = tt; promoted = tt; named = tt }
+operands_row p n (more_of-Expr x rest) h =
+    let k = operands_row p _ rest h.1 in
+    record { typed = (h.0.typed, k.typed); promoted = (h.0.promoted, k.promoted); named = named_both p (variables_in x) (variables_in_all rest) h.0.named k.named }
+
+some_row : (p : Program) (n : _) (r : Row_of-Expr n) → SomeOperands p (items-the_row-Expr n r) → GoodSome p r
+unfolding IsTypedExpression IsPromoted variables_in
+some_row p n end_of-Expr h = absurd h
+some_row p n (more_of-Expr x rest) h =
+    let k = operands_row p _ rest h.1 in
+    record { typed = (h.0.typed, k.typed); promoted = (h.0.promoted, k.promoted); named = named_both p (variables_in x) (variables_in_all rest) h.0.named k.named }
+
+operands_constant_row : (n : _) (r : Row_of-Expr n) → all_are_constant r ≡ operands_constant (items-the_row-Expr n r)
+unfolding is_constant operands_constant
+operands_constant_row n end_of-Expr = refl
+operands_constant_row n (more_of-Expr b rest) = ap (λ (x : Bool). is_constant b && x) (operands_constant_row _ rest)
+
+abbrev operands_of : Expr → (n : _) × Row_of-Expr n
+operands_of (And' n a m es) = (_, es)
+operands_of (Or' n a m es) = (_, es)
+operands_of _ = (_, end_of-Expr)
+
 -- ---- each form of an expression
 module _ (p : Program) where
   pub number_typed : (n : ℕ) (num : Num) → is_of num (pos n) ≡ true → GoodExpr p (v.Number n num)
-  unfolding IsTypedExpr IsPromoted
-  number_typed n num h = (h, tt)
+  unfolding IsTypedExpression IsPromoted variables_in
+  number_typed n num h = record { typed = h; promoted = tt; named = tt }
 
   pub input_typed : (k : ℕ) (num : Num) → num_of_input (slice_get p.inputs k) ≡ Some num → GoodExpr p (v.Input k num)
-  unfolding IsTypedExpr IsPromoted
-  input_typed k num h = (h, tt)
+  unfolding IsTypedExpression IsPromoted variables_in
+  input_typed k num h = record { typed = h; promoted = tt; named = tt }
 
   pub prefix_typed : (op : Prefix) (q : Pos) (num : Num) (a : Expr) → GoodExpr p a → converts (type_of a) num ≡ true → num ≡ promoted (type_of a) → GoodExpr p (v.Prefix op q num a)
-  unfolding IsTypedExpr IsPromoted Rattle.sa_typed.specs.declared.expr.Expr.TheBlock.hidden-the_row-Expr-1 denote.Hole.Carrier.hidden
-  prefix_typed op q num a t c e = ((t.0, c), (e, t.1))
+  unfolding IsTypedExpression IsPromoted variables_in Rattle.sa_typed.specs.declared.expr.Expr.TheBlock.hidden-the_row-Expr-1 denote.Hole.Carrier.hidden
+  prefix_typed op q num a t c e = record { typed = (t.typed, c); promoted = (e, t.promoted); named = t.named }
 
   pub cast_typed : (q : Pos) (num : Num) (a : Expr) → GoodExpr p a → GoodExpr p (v.Cast q num a)
-  unfolding IsTypedExpr IsPromoted Rattle.sa_typed.specs.declared.expr.Expr.TheBlock.hidden-the_row-Expr-1 denote.Hole.Carrier.hidden
-  cast_typed q num a t = t
+  unfolding IsTypedExpression IsPromoted variables_in Rattle.sa_typed.specs.declared.expr.Expr.TheBlock.hidden-the_row-Expr-1 denote.Hole.Carrier.hidden
+  cast_typed q num a t = record { typed = t.typed; promoted = t.promoted; named = t.named }
 
   pub chain_typed : (a : Expr) (ls : List Link) → GoodExpr p a → AllLinks p (type_of a) ls → GoodExpr p (v.Chain a ls)
-  unfolding IsTypedExpr IsPromoted Rattle.sa_typed.specs.declared.expr.Expr.TheBlock.hidden-the_row-Expr-1 denote.Hole.Carrier.hidden
+  unfolding IsTypedExpression IsPromoted variables_in Rattle.sa_typed.specs.declared.expr.Expr.TheBlock.hidden-the_row-Expr-1 denote.Hole.Carrier.hidden
   chain_typed a ls t h =
       let r = links_of (v.Chain a ls) in
-      let all = subst (AllLinks p (type_of a)) (sym (items_hidden-the_row-Link-2 ls)) h in
-      ((t.0, links_row p r.0 r.1 (type_of a) all), (t.1, promoted_links_row p r.0 r.1 (type_of a) all))
+      let g = links_row p r.0 r.1 (type_of a) (subst (AllLinks p (type_of a)) (sym (items_hidden-the_row-Link-2 ls)) h) in
+      record { typed = (t.typed, g.typed); promoted = (t.promoted, g.promoted); named = named_both p (variables_in a) (variables_in_links r.1) t.named g.named }
+
+  pub and_typed : (a : Expr) (es : List Expr) → GoodExpr p a → SomeOperands p es → GoodExpr p (v.And a es)
+  unfolding IsTypedExpression IsPromoted variables_in Rattle.sa_typed.specs.declared.expr.Expr.TheBlock.hidden-the_row-Expr-1 denote.Hole.Carrier.hidden
+  and_typed a es t h =
+      let r = operands_of (v.And a es) in
+      let g = some_row p r.0 r.1 (subst (SomeOperands p) (sym (items_hidden-the_row-Expr-3 es)) h) in
+      record { typed = (t.typed, g.typed); promoted = (t.promoted, g.promoted); named = named_both p (variables_in a) (variables_in_all r.1) t.named g.named }
+
+  pub or_typed : (a : Expr) (es : List Expr) → GoodExpr p a → SomeOperands p es → GoodExpr p (v.Or a es)
+  unfolding IsTypedExpression IsPromoted variables_in Rattle.sa_typed.specs.declared.expr.Expr.TheBlock.hidden-the_row-Expr-1 denote.Hole.Carrier.hidden
+  or_typed a es t h =
+      let r = operands_of (v.Or a es) in
+      let g = some_row p r.0 r.1 (subst (SomeOperands p) (sym (items_hidden-the_row-Expr-3 es)) h) in
+      record { typed = (t.typed, g.typed); promoted = (t.promoted, g.promoted); named = named_both p (variables_in a) (variables_in_all r.1) t.named g.named }
+
+  pub choice_typed : (a b c : Expr) (num : Num) → GoodExpr p a → GoodExpr p b → GoodExpr p c → converts (type_of b) num ≡ true → converts (type_of c) num ≡ true → GoodExpr p (v.Choice a b c num)
+  unfolding IsTypedExpression IsPromoted variables_in Rattle.sa_typed.specs.declared.expr.Expr.TheBlock.hidden-the_row-Expr-1 denote.Hole.Carrier.hidden
+  choice_typed a b c num t u w f g = record {
+    typed = (t.typed, ((u.typed, f), (w.typed, g)));
+    promoted = (t.promoted, (u.promoted, w.promoted));
+    named = named_both p (variables_in a) (variables_in b ++ variables_in c) t.named (named_both p (variables_in b) (variables_in c) u.named w.named);
+  }
 
 pub type_number : (n : ℕ) (num : Num) → type_of (v.Number n num) ≡ num
 unfolding type_of
@@ -255,6 +353,18 @@ pub type_chain : (a : Expr) (ls : List Link) → type_of (v.Chain a ls) ≡ afte
 unfolding type_of Rattle.sa_typed.specs.declared.expr.Expr.TheBlock.hidden-the_row-Expr-1 denote.Hole.Carrier.hidden
 type_chain a ls = let r = links_of (v.Chain a ls) in after_row r.0 r.1 (type_of a) ∙ ap (after_links (type_of a)) (items_hidden-the_row-Link-2 ls)
 
+pub type_and : (a : Expr) (es : List Expr) → type_of (v.And a es) ≡ I32
+unfolding type_of
+type_and a es = refl
+
+pub type_or : (a : Expr) (es : List Expr) → type_of (v.Or a es) ≡ I32
+unfolding type_of
+type_or a es = refl
+
+pub type_choice : (a b c : Expr) (num : Num) → type_of (v.Choice a b c num) ≡ num
+unfolding type_of
+type_choice a b c num = refl
+
 pub constant_number : (n : ℕ) (num : Num) → is_constant (v.Number n num) ≡ true
 unfolding is_constant
 constant_number n num = refl
@@ -273,70 +383,54 @@ constant_chain a ls h k =
     let r = links_of (v.Chain a ls) in
     both_fixed (is_constant a) (are_constant r.1) h (constant_row r.0 r.1 ∙ ap all_constant (items_hidden-the_row-Link-2 ls) ∙ k)
 
--- ---- statements
--- the value that a local begins with
-abbrev pub IsPromotedStart : Start → Type 0
-IsPromotedStart begins.Any = Unit {0}
-IsPromotedStart (begins.Value q a) = IsPromoted a
-IsPromotedStart begins.Items = Unit {0}
+pub constant_and : (a : Expr) (es : List Expr) → is_constant a ≡ true → operands_constant es ≡ true → is_constant (v.And a es) ≡ true
+unfolding is_constant Rattle.sa_typed.specs.declared.expr.Expr.TheBlock.hidden-the_row-Expr-1 denote.Hole.Carrier.hidden
+constant_and a es h k =
+    let r = operands_of (v.And a es) in
+    both_fixed (is_constant a) (all_are_constant r.1) h (operands_constant_row r.0 r.1 ∙ ap operands_constant (items_hidden-the_row-Expr-3 es) ∙ k)
 
--- what is declared is a local of main, what is assigned to may change, and operators work in promoted types
-abbrev pub IsFree : Program → Simple → Type 0
-IsFree p (Declare k x) = IsOwn 0 (slice_get p.vars k) × IsPromotedStart x
-IsFree p (Assign x num q a) = ChangesVariable p (v.Read x I32) × (IsPromoted (v.Read x I32) × IsPromoted a)
-IsFree p (Compound x num op q work a) = ChangesVariable p (v.Read x I32) × (IsPromoted (v.Read x I32) × IsPromoted a)
-IsFree p (Copy k x q y) = (ChangesVariable p (v.Read x I32) × NamesVariable p (v.Read y I32)) × (IsPromoted (v.Read x I32) × IsPromoted (v.Read y I32))
+pub constant_or : (a : Expr) (es : List Expr) → is_constant a ≡ true → operands_constant es ≡ true → is_constant (v.Or a es) ≡ true
+unfolding is_constant Rattle.sa_typed.specs.declared.expr.Expr.TheBlock.hidden-the_row-Expr-1 denote.Hole.Carrier.hidden
+constant_or a es h k =
+    let r = operands_of (v.Or a es) in
+    both_fixed (is_constant a) (all_are_constant r.1) h (operands_constant_row r.0 r.1 ∙ ap operands_constant (items_hidden-the_row-Expr-3 es) ∙ k)
+
+pub constant_choice : (a b c : Expr) (num : Num) → is_constant a ≡ true → is_constant b ≡ true → is_constant c ≡ true → is_constant (v.Choice a b c num) ≡ true
+unfolding is_constant Rattle.sa_typed.specs.declared.expr.Expr.TheBlock.hidden-the_row-Expr-1 denote.Hole.Carrier.hidden
+constant_choice a b c num h k l = both_fixed (is_constant a) (is_constant b && is_constant c) h (both_fixed (is_constant b) (is_constant c) k l)
+
+-- ---- statements
+-- what typing promises of a simple statement of main, but for what parameters there are
+abbrev pub GoodSimple : Program → Simple → Type 0
+GoodSimple p (Declare k x) = IsOwn 0 (slice_get p.vars k) × IsTypedBeginning p 0 k x
+GoodSimple p (Assign x num q a) = IsLeftSide p 0 (leaf num) x × IsExpression p 0 a
+GoodSimple p (Compound x num op q work a) = IsLeftSide p 0 (leaf num) x × (IsExpression p 0 a × IsLink op num work (type_of a))
+GoodSimple p (Copy k x q y) = (l : Layout) × ((IsLeftSide p 0 l x × IsTrue (is_fixed_read (v.Read x I32))) × (IsPlace p 0 l y × IsTrue (is_fixed_read (v.Read y I32))))
 
 -- simple statements and blocks of them
 unfoldable mutual
-  pub IsFreeStmt : Program → Stmt → Type 0
-  IsFreeStmt p (Stmt.Simple x) = IsFree p x
-  IsFreeStmt p (Stmt.Block' n all) = AreFree p all
-  IsFreeStmt p _ = ⊥
+  pub GoodStmt : Program → Stmt → Type 0
+  GoodStmt p (Stmt.Simple x) = GoodSimple p x
+  GoodStmt p (Stmt.Block' n all) = AreGood p all
+  GoodStmt p _ = ⊥
 
-  pub AreFree : {n : _} → Program → Row_of-Stmt n → Type 0
-  AreFree p end_of-Stmt = Unit {0}
-  AreFree p (more_of-Stmt x rest) = IsFreeStmt p x × AreFree p rest
-
-abbrev pub GoodSimple : Program → Simple → Type 0
-GoodSimple p x = IsTypedSimple p x × IsFree p x
-
-abbrev pub GoodStmt : Program → Stmt → Type 0
-GoodStmt p x = IsTypedStmt p x × IsFreeStmt p x
+  pub AreGood : {n : _} → Program → Row_of-Stmt n → Type 0
+  AreGood p end_of-Stmt = Unit {0}
+  AreGood p (more_of-Stmt x rest) = GoodStmt p x × AreGood p rest
 
 unfoldable pub AllStmts : Program → List Stmt → Type 0
 AllStmts p [] = Unit {0}
 AllStmts p (x ∷ xs) = GoodStmt p x × AllStmts p xs
-
-unfoldable pub AllTyped : Program → List Stmt → Type 0
-AllTyped p [] = Unit {0}
-AllTyped p (x ∷ xs) = IsTypedStmt p x × AllTyped p xs
 
 pub stmts_append : (p : Program) (xs : List Stmt) (x : Stmt) → AllStmts p xs → GoodStmt p x → AllStmts p (xs ++ x ∷ [])
 unfolding AllStmts
 stmts_append p [] x h k = (k, tt)
 stmts_append p (y ∷ xs) x h k = (h.0, stmts_append p xs x h.1 k)
 
--- good statements, and a typed one behind them
-pub typed_append : (p : Program) (xs : List Stmt) (x : Stmt) → AllStmts p xs → IsTypedStmt p x → AllTyped p (xs ++ x ∷ [])
-unfolding AllStmts AllTyped
-typed_append p [] x h k = (k, tt)
-typed_append p (y ∷ xs) x h k = (h.0.0, typed_append p xs x h.1 k)
-
-typed_of : (p : Program) (xs : List Stmt) → AllStmts p xs → AllTyped p xs
-unfolding AllStmts AllTyped
-typed_of p [] h = tt
-typed_of p (y ∷ xs) h = (h.0.0, typed_of p xs h.1)
-
-stmts_row : (p : Program) (n : _) (r : Row_of-Stmt n) → AllTyped p (items-the_row-Stmt n r) → AreTypedStmts p r
-unfolding AllTyped IsTypedStmt
-stmts_row p n end_of-Stmt h = tt
-stmts_row p n (more_of-Stmt x rest) h = (h.0, stmts_row p _ rest h.1)
-
-pub free_row : (p : Program) (n : _) (r : Row_of-Stmt n) → AllStmts p (items-the_row-Stmt n r) → AreFree p r
-unfolding AllStmts IsFreeStmt
-free_row p n end_of-Stmt h = tt
-free_row p n (more_of-Stmt x rest) h = (h.0.1, free_row p _ rest h.1)
+good_row : (p : Program) (n : _) (r : Row_of-Stmt n) → AllStmts p (items-the_row-Stmt n r) → AreGood p r
+unfolding AllStmts GoodStmt
+good_row p n end_of-Stmt h = tt
+good_row p n (more_of-Stmt x rest) h = (h.0, good_row p _ rest h.1)
 
 abbrev stmts_of : Stmt → (n : _) × Row_of-Stmt n
 stmts_of (Stmt.Block' n r) = (_, r)
@@ -344,21 +438,9 @@ stmts_of _ = (_, end_of-Stmt)
 
 module _ (p : Program) where
   pub simple_typed : (x : Simple) → GoodSimple p x → GoodStmt p (s.Simple x)
-  unfolding IsTypedStmt IsFreeStmt
+  unfolding GoodStmt
   simple_typed x h = h
 
-  pub whole_typed : (all : List Stmt) → AllTyped p all → IsTypedStmt p (s.Block all)
-  unfolding IsTypedStmt
-  whole_typed all h = let r = stmts_of (s.Block all) in stmts_row p r.0 r.1 (subst (AllTyped p) (sym (items_hidden-the_row-Stmt-0 all)) h)
-
-  whole_free : (all : List Stmt) → AllStmts p all → IsFreeStmt p (s.Block all)
-  unfolding IsFreeStmt
-  whole_free all h = let r = stmts_of (s.Block all) in free_row p r.0 r.1 (subst (AllStmts p) (sym (items_hidden-the_row-Stmt-0 all)) h)
-
   pub block_typed : (all : List Stmt) → AllStmts p all → GoodStmt p (s.Block all)
-  block_typed all h = (whole_typed all (typed_of p all h), whole_free all h)
-
-  -- the clock loop around statements, of which the wait is the last
-  pub clock_typed : (q : Pos) (all : List Stmt) → AllStmts p all → IsTypedStmt p (s.Loop q kind.Clock None (s.Block (all ++ s.Wait ∷ [])) None)
-  unfolding IsTypedStmt Rattle.sa_typed.specs.declared.stmt.Stmt.TheBlock.hidden-the_row-Stmt-1 denote.Hole.Carrier.hidden
-  clock_typed q all h = whole_typed (all ++ s.Wait ∷ []) (typed_append p all s.Wait h tt)
+  unfolding GoodStmt
+  block_typed all h = let r = stmts_of (s.Block all) in good_row p r.0 r.1 (subst (AllStmts p) (sym (items_hidden-the_row-Stmt-0 all)) h)

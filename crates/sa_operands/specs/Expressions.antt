@@ -23,7 +23,7 @@ use Rattle.sa_scopes.specs.declared.types.Ty.{Ty}
 use Rattle.sa_scopes.specs.First.{expr_pos}
 use Rattle.sa_scopes.specs.Types as types
 use Rattle.sa_scopes.specs.Types.{qualifiers, object, plain}
-use Rattle.sa_operands.specs.Operands.{some_number, literal, beside, prefix_of, prefixed, cast, left_of, linked, chained}
+use Rattle.sa_operands.specs.Operands.{literal, beside, prefix_of, prefixed, cast, left_of, linked, chained, choice}
 use Rattle.sa_operands.specs.Places as place
 use Rattle.sa_operands.specs.Definitions as def
 use Rattle.sa_operands.specs.Definitions.{no_fields}
@@ -43,7 +43,6 @@ abbrev pub bounding : Expr → Typing Operand → List ℕ → Typing (List ℕ)
 bounding x m found = m >>= (λ i. def.dimension (expr_pos x) i >>= (λ n. pure (found ++ n ∷ [])))
 
 unfoldable mutual
-  -- a choice isn't built yet
   pub expr : Expr → Typing Operand
   expr (Number v unsigned longs decimal p) = pure (literal v unsigned longs decimal)
   expr (Place' b n row) = place.begins b >>= steps row >>= (λ l. pure (place.operand l))
@@ -52,7 +51,7 @@ unfoldable mutual
   expr (Cast' p m (more_of-Specifiers q qs b end_of-Specifiers) n (more_of-Expr x end_of-Expr)) =
       qualifiers false true qs >> (object q qs (base_type q b) >>= (λ ty. expr x >>= (λ x. cast p ty.element x)))
   expr (Chain' m (more_of-Expr x end_of-Expr) n row) = expr x >>= (λ first. beside_first row x >> (links row (left_of first) >>= (λ l. pure (chained l))))
-  expr (Choice' l x p m y n z) = pure some_number
+  expr (Choice' l (more_of-Expr x end_of-Expr) p m (more_of-Expr y end_of-Expr) n (more_of-Expr z end_of-Expr)) = expr x >>= (λ c. expr y >>= (λ y. expr z >>= (λ z. choice p c y z)))
 
   pub links : {n : _} → Row_of-Link n → Left → Typing Left
   links end_of-Link l = pure l

@@ -1,6 +1,6 @@
 -- Operators and what they are applied to. An operator's result is a number, whatever its operands are; where one of them is no
 -- number a stand-in takes its place.
-use Rattle.std.specs.Prelude.{ℕ, ℤ, pos, List, [], ◌∷◌, ◌++◌, Bool, true, false, if◌then◌else◌, Option, Some, None}
+use Rattle.std.specs.Prelude.{ℕ, ℤ, pos, List, [], ◌∷◌, ◌++◌, ◌||◌, Bool, true, false, if◌then◌else◌, Option, Some, None}
 use Rattle.sa_base.specs.declared.num.Num.{Num}
 use Rattle.sa_base.specs.declared.num.Num.TheVariants.{I32}
 use Rattle.sa_base.specs.declared.pos.Pos.{Pos}
@@ -17,18 +17,22 @@ use Rattle.sa_typed.specs.declared.expr.Operator.{Operator}
 use Rattle.sa_typed.specs.declared.expr.Operator.TheVariants as op
 use Rattle.sa_typed.specs.declared.expr.Prefix.{Prefix}
 use Rattle.sa_typed.specs.declared.expr.Prefix.TheVariants as pre
-use Rattle.sa_typed.specs.Arithmetic.{is_of, promoted, literal_type, result_type, prefix_type}
+use Rattle.sa_typed.specs.Arithmetic.{is_of, promoted, common, literal_type, result_type, prefix_type}
 use Rattle.sa_scopes.specs.declared.constant.Value.{Value}
 use Rattle.sa_scopes.specs.declared.constant.Value.TheVariants.{Varies}
 use Rattle.sa_operands.specs.declared.operand.Operand.{Operand}
 use Rattle.sa_operands.specs.declared.operand.Operand.TheVariants as a
 use Rattle.sa_operands.specs.declared.operand.Sort.{Sort}
 use Rattle.sa_operands.specs.declared.operand.Sort.TheVariants as sort
+use Rattle.sa_operands.specs.declared.operand.Join.{Join}
+use Rattle.sa_operands.specs.declared.operand.Join.TheVariants as join
 use Rattle.sa_operands.specs.declared.operand.Left.{Left}
+use Rattle.sa_operands.specs.declared.operand.Rest.{Rest}
+use Rattle.sa_operands.specs.declared.operand.Rest.TheVariants as rest
 use Rattle.sa_scopes.specs.declared.types.Element.{Element}
 use Rattle.sa_scopes.specs.declared.types.Element.TheVariants as el
 use Rattle.sa_scopes.specs.Constants.{working}
-use Rattle.sa_scopes.specs.Values.{literal_value, prefix_value, cast_value, miscast_value, operator_value}
+use Rattle.sa_scopes.specs.Values.{literal_value, prefix_value, cast_value, miscast_value, operator_value, and_value, or_value, choice_value}
 use Rattle.sa_scopes.specs.Typing.{Typing, Gives, ◌>>◌, pure, refuse, refuse_if}
 
 -- what stands in for an expression
@@ -138,53 +142,91 @@ cast p (el.Struct k) x = refuse 5 p >> miscast p x
 cast p el.Void x = miscast p x
 cast p el.Unknown x = miscast p x
 
--- ---- chains of operators of one level, which group to the left (6.5.5 to 6.5.12)
-abbrev pub operator_of : from.Operator → Option Operator
-operator_of o.Or = None
-operator_of o.And = None
-operator_of o.BitOr = Some op.BitOr
-operator_of o.BitXor = Some op.BitXor
-operator_of o.BitAnd = Some op.BitAnd
-operator_of o.Equal = Some op.Equal
-operator_of o.NotEqual = Some op.NotEqual
-operator_of o.Less = Some op.Less
-operator_of o.LessEqual = Some op.LessEqual
-operator_of o.Greater = Some op.Greater
-operator_of o.GreaterEqual = Some op.GreaterEqual
-operator_of o.ShiftLeft = Some op.ShiftLeft
-operator_of o.ShiftRight = Some op.ShiftRight
-operator_of o.Plus = Some op.Plus
-operator_of o.Minus = Some op.Minus
-operator_of o.Times = Some op.Times
-operator_of o.Divide = Some op.Divide
-operator_of o.Remainder = Some op.Remainder
+-- ---- chains of operators of one level, which group to the left (6.5.5 to 6.5.14)
+-- what an operator makes of the operands beside it
+abbrev pub join_of : from.Operator → Join
+join_of o.Or = join.Or
+join_of o.And = join.And
+join_of o.BitOr = join.Link op.BitOr
+join_of o.BitXor = join.Link op.BitXor
+join_of o.BitAnd = join.Link op.BitAnd
+join_of o.Equal = join.Link op.Equal
+join_of o.NotEqual = join.Link op.NotEqual
+join_of o.Less = join.Link op.Less
+join_of o.LessEqual = join.Link op.LessEqual
+join_of o.Greater = join.Link op.Greater
+join_of o.GreaterEqual = join.Link op.GreaterEqual
+join_of o.ShiftLeft = join.Link op.ShiftLeft
+join_of o.ShiftRight = join.Link op.ShiftRight
+join_of o.Plus = join.Link op.Plus
+join_of o.Minus = join.Link op.Minus
+join_of o.Times = join.Link op.Times
+join_of o.Divide = join.Link op.Divide
+join_of o.Remainder = join.Link op.Remainder
+
+abbrev pub joined_value : Join → Value → Value → Value
+joined_value join.And v w = and_value v w
+joined_value join.Or v w = or_value v w
+joined_value (join.Link op) v w = operator_value op v w
 
 abbrev pub left_of : Operand → Left
-left_of x = record { sort = sort_of x; first = expr_or x; links = []; value = known_value x }
+left_of x = record { sort = sort_of x; first = expr_or x; rest = rest.Links []; value = known_value x }
 
 abbrev pub some_left : Left
 some_left = left_of some_number
 
+-- operators of two levels, which no text has in one chain
+abbrev pub mixed : Value → Left
+mixed v = record some_left { value = v }
+
 abbrev pub link : Operator → Pos → Num → Expr → Link
 link op p num x = roll-Link (record { op = op; pos = p; num = num; operand = x })
 
--- another operand that is a number, after numbers
-abbrev pub linked_numbers : Operator → Pos → Left → Num → Expr → Num → Value → Left
-linked_numbers op p l before x num v = record {
+-- what stands behind the first operand, where another operand may follow with such an operator
+abbrev pub links_of : Rest → Option (List Link)
+links_of (rest.Links ls) = Some ls
+links_of _ = None
+
+abbrev pub ands_of : Rest → Option (List Expr)
+ands_of (rest.Links []) = Some []
+ands_of (rest.And xs) = Some xs
+ands_of _ = None
+
+abbrev pub ors_of : Rest → Option (List Expr)
+ors_of (rest.Links []) = Some []
+ors_of (rest.Or xs) = Some xs
+ors_of _ = None
+
+-- the same with that operand, which is a number as the ones before are
+abbrev pub with_link : Operator → Pos → Left → Num → Expr → Num → Value → Option (List Link) → Left
+with_link op p l before x num v None = mixed v
+with_link op p l before x num v (Some ls) = record {
   sort = sort.Number (result_type op (working op before num));
   first = l.first;
-  links = l.links ++ link op p (working op before num) x ∷ [];
-  value = operator_value op l.value v;
+  rest = rest.Links (ls ++ link op p (working op before num) x ∷ []);
+  value = v;
 }
 
-abbrev pub linked_by : Option Operator → Pos → Left → Num → Expr → Num → Value → Left
-linked_by None p l before x num v = some_left
-linked_by (Some op) p l before x num v = linked_numbers op p l before x num v
+abbrev pub with_and : Left → Expr → Value → Option (List Expr) → Left
+with_and l x v None = mixed v
+with_and l x v (Some xs) = record { sort = sort.Number I32; first = l.first; rest = rest.And (xs ++ x ∷ []); value = v }
+
+abbrev pub with_or : Left → Expr → Value → Option (List Expr) → Left
+with_or l x v None = mixed v
+with_or l x v (Some xs) = record { sort = sort.Number I32; first = l.first; rest = rest.Or (xs ++ x ∷ []); value = v }
+
+abbrev pub joined_as : Join → Pos → Left → Num → Expr → Num → Value → Left
+joined_as join.And p l before x num v = with_and l x v (ands_of l.rest)
+joined_as join.Or p l before x num v = with_or l x v (ors_of l.rest)
+joined_as (join.Link op) p l before x num v = with_link op p l before x num v (links_of l.rest)
+
+abbrev pub joined : Join → Pos → Left → Num → Expr → Num → Value → Left
+joined j p l before x num v = joined_as j p l before x num (joined_value j l.value v)
 
 -- what stands so far, with another operator and operand
 unfoldable pub linked : from.Operator → Pos → Left → Operand → Typing Left
 linked op p l (a.Number x num v) = elim l.sort as (λ _. Typing Left) [
-  | sort.Number before ↦ pure (linked_by (operator_of op) p l before x num v)
+  | sort.Number before ↦ pure (joined (join_of op) p l before x num v)
   | sort.Object ↦ refuse 5 p >> pure some_left
   | sort.Unknown ↦ pure some_left
 ]
@@ -192,10 +234,27 @@ linked op p l (a.Struct x k fixed q) = refuse 5 p >> pure some_left
 linked op p l (a.Array q) = refuse 5 p >> pure some_left
 linked op p l a.Unknown = refuse_if (is_object l.sort) 5 p >> pure some_left
 
+abbrev pub chain : Expr → Rest → Expr
+chain x (rest.Links ls) = e.Chain x ls
+chain x (rest.And xs) = e.And x xs
+chain x (rest.Or xs) = e.Or x xs
+
 -- the whole chain; an object has no operator behind it only where there is none at all, which no text has
 abbrev pub chained : Left → Operand
 chained l = elim l.sort as (λ _. Operand) [
-  | sort.Number num ↦ a.Number (e.Chain l.first l.links) num l.value
+  | sort.Number num ↦ a.Number (chain l.first l.rest) num l.value
   | sort.Object ↦ some_number
   | sort.Unknown ↦ a.Unknown
 ]
+
+-- ---- `?:` (6.5.15): the results are converted to the type that they have in common
+abbrev pub num_or : Operand → Num
+num_or (a.Number x num v) = num
+num_or _ = I32
+
+abbrev pub choice_in : Num → Operand → Operand → Operand → Operand
+choice_in num c x y = a.Number (e.Choice (expr_or c) (expr_or x) (expr_or y) num) num (choice_value (known_value c) (known_value x) (known_value y))
+
+-- the condition and the results, with the mark at that place; what is no number is refused there or was before
+unfoldable pub choice : Pos → Operand → Operand → Operand → Typing Operand
+choice p c x y = refuse_if (is_object (sort_of c) || is_object (sort_of x) || is_object (sort_of y)) 5 p >> pure (choice_in (common (num_or x) (num_or y)) c x y)

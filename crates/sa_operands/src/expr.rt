@@ -8,7 +8,7 @@ ghost use Rattle.sa_scopes.specs.Typing.{Yields, given};
 
 use crate::definition::{close, dimension, field, no_fields, open_tag};
 use crate::operand::{
-    Left, Operand, Spot, beside, cast, left_of, linked, literal, prefix_of, prefixed, some_number,
+    Left, Operand, Spot, beside, cast, choice, left_of, linked, literal, prefix_of, prefixed,
 };
 use crate::place::{arrow, begins, field as step_field, index, operand};
 use sa_base::OutOfMemory;
@@ -54,7 +54,12 @@ pub fn expr<'a>(alloc: Global, typer: &mut Typer<'a>, e: &'a Expr) -> Result<Ope
             let left = links(alloc, typer, more.as_slice(), left)?;
             left.into_operand(alloc)
         }
-        Expr::Choice(_, _, _, _) => Ok(some_number()),
+        Expr::Choice(condition, pos, first, second) => {
+            let condition = expr(alloc, typer, condition.get())?;
+            let first = expr(alloc, typer, first.get())?;
+            let second = expr(alloc, typer, second.get())?;
+            choice(alloc, typer, *pos, condition, first, second)
+        }
     }
 }
 

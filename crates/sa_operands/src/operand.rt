@@ -2,13 +2,16 @@
 
 ghost use Rattle.std.specs.Prelude.{◌≡◌, IfOk};
 ghost use Rattle.sa_operands.specs.Operands as spec;
+ghost use Rattle.sa_operands.specs.declared.operand.Rest.TheVariants.{Links};
 ghost use Rattle.sa_scopes.specs.Typing.{Yields};
 
 use sa_base::{Num, OutOfMemory, Pos};
 use sa_scopes::constant::{Value, literal_value, working};
 use sa_scopes::typer::Typer;
 use sa_scopes::types::Element;
-use sa_typed::{Access, Expr, Link, Operator, Prefix, Shape, Step, is_of, literal_type, promoted};
+use sa_typed::{
+    Access, Expr, Link, Operator, Prefix, Shape, Step, common, is_of, literal_type, promoted,
+};
 use sqlite_items::{Boxed, Items};
 use std::alloc::Global;
 
@@ -34,12 +37,29 @@ pub enum Sort {
     Unknown,
 }
 
+/// What an operator makes of the operands beside it.
+#[derive(Clone, Copy, Debug, PartialEq, Eq)]
+pub enum Join {
+    And,
+    Or,
+    /// An operator that evaluates both of its operands.
+    Link(Operator),
+}
+
+/// What stands behind the first operand of a chain: links, or the operands of `&&` or `||`.
+#[derive(Drop)]
+pub enum Rest {
+    Links(Items<Link>),
+    And(Items<Expr>),
+    Or(Items<Expr>),
+}
+
 /// A chain of operators as far as it is typed. What is no number has a stand-in as its first operand.
 #[derive(Drop)]
 pub struct Left {
     pub sort: Sort,
     pub first: Expr,
-    pub links: Items<Link>,
+    pub rest: Rest,
     pub value: Value,
 }
 
@@ -110,6 +130,16 @@ impl Operand {
         match self {
             Operand::Number(_, _, value) => *value,
             _ => Value::Varies,
+        }
+    }
+
+    /// The type of its value; what is no number counts as an `int`.
+    fn num(&self) -> Num
+        ensures { result ≡ spec.num_or self.now }
+    {
+        match self {
+            Operand::Number(_, num, _) => *num,
+            _ => Num::I32,
         }
     }
 
@@ -346,27 +376,41 @@ pub fn cast(
 
 // ---- chains of operators
 
-pub fn operator_of(op: sa_syntax::Operator) -> Option<Operator>
-    ensures { result ≡ spec.operator_of op }
+fn join_of(op: sa_syntax::Operator) -> Join
+    ensures { result ≡ spec.join_of op }
 {
     match op {
-        sa_syntax::Operator::Or | sa_syntax::Operator::And => None,
-        sa_syntax::Operator::BitOr => Some(Operator::BitOr),
-        sa_syntax::Operator::BitXor => Some(Operator::BitXor),
-        sa_syntax::Operator::BitAnd => Some(Operator::BitAnd),
-        sa_syntax::Operator::Equal => Some(Operator::Equal),
-        sa_syntax::Operator::NotEqual => Some(Operator::NotEqual),
-        sa_syntax::Operator::Less => Some(Operator::Less),
-        sa_syntax::Operator::LessEqual => Some(Operator::LessEqual),
-        sa_syntax::Operator::Greater => Some(Operator::Greater),
-        sa_syntax::Operator::GreaterEqual => Some(Operator::GreaterEqual),
-        sa_syntax::Operator::ShiftLeft => Some(Operator::ShiftLeft),
-        sa_syntax::Operator::ShiftRight => Some(Operator::ShiftRight),
-        sa_syntax::Operator::Plus => Some(Operator::Plus),
-        sa_syntax::Operator::Minus => Some(Operator::Minus),
-        sa_syntax::Operator::Times => Some(Operator::Times),
-        sa_syntax::Operator::Divide => Some(Operator::Divide),
-        sa_syntax::Operator::Remainder => Some(Operator::Remainder),
+        sa_syntax::Operator::Or => Join::Or,
+        sa_syntax::Operator::And => Join::And,
+        sa_syntax::Operator::BitOr => Join::Link(Operator::BitOr),
+        sa_syntax::Operator::BitXor => Join::Link(Operator::BitXor),
+        sa_syntax::Operator::BitAnd => Join::Link(Operator::BitAnd),
+        sa_syntax::Operator::Equal => Join::Link(Operator::Equal),
+        sa_syntax::Operator::NotEqual => Join::Link(Operator::NotEqual),
+        sa_syntax::Operator::Less => Join::Link(Operator::Less),
+        sa_syntax::Operator::LessEqual => Join::Link(Operator::LessEqual),
+        sa_syntax::Operator::Greater => Join::Link(Operator::Greater),
+        sa_syntax::Operator::GreaterEqual => Join::Link(Operator::GreaterEqual),
+        sa_syntax::Operator::ShiftLeft => Join::Link(Operator::ShiftLeft),
+        sa_syntax::Operator::ShiftRight => Join::Link(Operator::ShiftRight),
+        sa_syntax::Operator::Plus => Join::Link(Operator::Plus),
+        sa_syntax::Operator::Minus => Join::Link(Operator::Minus),
+        sa_syntax::Operator::Times => Join::Link(Operator::Times),
+        sa_syntax::Operator::Divide => Join::Link(Operator::Divide),
+        sa_syntax::Operator::Remainder => Join::Link(Operator::Remainder),
+    }
+}
+
+impl Join {
+    /// The value of two operands that it joins.
+    fn value(self, left: Value, right: Value) -> Value
+        ensures { result ≡ spec.joined_value self left right }
+    {
+        match self {
+            Join::And => left.and(right),
+            Join::Or => left.or(right),
+            Join::Link(op) => left.operated(op, right),
+        }
     }
 }
 
@@ -378,7 +422,7 @@ pub fn left_of(alloc: Global, operand: Operand) -> Left
         sort: operand.sort(),
         value: operand.known_value(),
         first: operand.into_expr(),
-        links: Items::new(alloc),
+        rest: Rest::Links(Items::new(alloc)),
     }
 }
 
@@ -388,53 +432,78 @@ fn some_left(alloc: Global) -> Left
     left_of(alloc, some_number())
 }
 
-impl Left {
-    /// With another operand that is a number, after numbers.
-    fn with_number(
-        self,
-        op: Operator,
-        pos: Pos,
-        before: Num,
-        expr: Expr,
-        num: Num,
-        value: Value,
-    ) -> Result<Left, OutOfMemory>
-        ensures { IfOk result (λ l. l ≡ spec.linked_numbers op pos self before expr num value) }
-    {
-        let num = working(op, before, num);
-        let mut links = self.links;
-        links.push(Link {
-            op,
-            pos,
-            num,
-            operand: expr,
-        })?;
-        Ok(Left {
-            sort: Sort::Number(op.result_type(num)),
-            first: self.first,
-            links,
-            value: self.value.operated(op, value),
-        })
-    }
-
-    /// The whole chain.
-    pub fn into_operand(self, alloc: Global) -> Result<Operand, OutOfMemory>
-        ensures { IfOk result (λ o. o ≡ spec.chained self) }
-    {
-        match self.sort {
-            Sort::Number(num) => {
-                let expr = Expr::Chain(Boxed::new(alloc, self.first)?, self.links);
-                Ok(Operand::Number(expr, num, self.value))
-            }
-            Sort::Object => Ok(some_number()),
-            Sort::Unknown => Ok(Operand::Unknown),
-        }
+/// Operators of two levels, which no text has in one chain.
+fn mixed(alloc: Global, value: Value) -> Left
+    ensures { result ≡ spec.mixed value }
+{
+    Left {
+        sort: Sort::Number(Num::I32),
+        first: stand_in(),
+        rest: Rest::Links(Items::new(alloc)),
+        value,
     }
 }
 
-fn linked_by(
+impl Rest {
+    /// The links, where another one may follow.
+    fn into_links(self) -> Option<Items<Link>>
+        ensures { result ≡ spec.links_of self }
+    {
+        match self {
+            Rest::Links(links) => Some(links),
+            Rest::And(_) | Rest::Or(_) => None,
+        }
+    }
+
+    /// The operands of `&&`, where another one may follow.
+    fn into_ands(self, alloc: Global) -> Option<Items<Expr>>
+        ensures { result ≡ spec.ands_of self }
+    {
+        match self {
+            Rest::Links(links) => none_before(alloc, links.as_slice()),
+            Rest::And(operands) => Some(operands),
+            Rest::Or(_) => None,
+        }
+    }
+
+    /// The operands of `||`, where another one may follow.
+    fn into_ors(self, alloc: Global) -> Option<Items<Expr>>
+        ensures { result ≡ spec.ors_of self }
+    {
+        match self {
+            Rest::Links(links) => none_before(alloc, links.as_slice()),
+            Rest::Or(operands) => Some(operands),
+            Rest::And(_) => None,
+        }
+    }
+
+    /// The chain with that first operand.
+    fn chain(self, alloc: Global, first: Expr) -> Result<Expr, OutOfMemory>
+        ensures { IfOk result (λ e. e ≡ spec.chain first self) }
+    {
+        let first = Boxed::new(alloc, first)?;
+        Ok(match self {
+            Rest::Links(links) => Expr::Chain(first, links),
+            Rest::And(operands) => Expr::And(first, operands),
+            Rest::Or(operands) => Expr::Or(first, operands),
+        })
+    }
+}
+
+/// The operands of `&&` or `||` so far, where no link stands before them.
+fn none_before(alloc: Global, links: &[Link]) -> Option<Items<Expr>>
+    ensures { result ≡ spec.ands_of (Links links.now) }
+{
+    match links {
+        [] => Some(Items::new(alloc)),
+        [_, ..] => None,
+    }
+}
+
+/// With another operand that is a number, after the operands before it.
+fn with_link(
     alloc: Global,
-    op: Option<Operator>,
+    op: Operator,
     pos: Pos,
     left: Left,
     before: Num,
@@ -442,11 +511,79 @@ fn linked_by(
     num: Num,
     value: Value,
 ) -> Result<Left, OutOfMemory>
-    ensures { IfOk result (λ l. l ≡ spec.linked_by op pos left before expr num value) }
+    ensures { IfOk result (λ l. l ≡ spec.with_link op pos left before expr num value (spec.links_of left.rest)) }
 {
-    match op {
-        None => Ok(some_left(alloc)),
-        Some(op) => left.with_number(op, pos, before, expr, num, value),
+    let num = working(op, before, num);
+    match left.rest.into_links() {
+        None => Ok(mixed(alloc, value)),
+        Some(mut links) => {
+            links.push(Link {
+                op,
+                pos,
+                num,
+                operand: expr,
+            })?;
+            Ok(Left {
+                sort: Sort::Number(op.result_type(num)),
+                first: left.first,
+                rest: Rest::Links(links),
+                value,
+            })
+        }
+    }
+}
+
+fn with_and(alloc: Global, left: Left, expr: Expr, value: Value) -> Result<Left, OutOfMemory>
+    ensures { IfOk result (λ l. l ≡ spec.with_and left expr value (spec.ands_of left.rest)) }
+{
+    match left.rest.into_ands(alloc) {
+        None => Ok(mixed(alloc, value)),
+        Some(mut operands) => {
+            operands.push(expr)?;
+            Ok(Left {
+                sort: Sort::Number(Num::I32),
+                first: left.first,
+                rest: Rest::And(operands),
+                value,
+            })
+        }
+    }
+}
+
+fn with_or(alloc: Global, left: Left, expr: Expr, value: Value) -> Result<Left, OutOfMemory>
+    ensures { IfOk result (λ l. l ≡ spec.with_or left expr value (spec.ors_of left.rest)) }
+{
+    match left.rest.into_ors(alloc) {
+        None => Ok(mixed(alloc, value)),
+        Some(mut operands) => {
+            operands.push(expr)?;
+            Ok(Left {
+                sort: Sort::Number(Num::I32),
+                first: left.first,
+                rest: Rest::Or(operands),
+                value,
+            })
+        }
+    }
+}
+
+fn joined(
+    alloc: Global,
+    join: Join,
+    pos: Pos,
+    left: Left,
+    before: Num,
+    expr: Expr,
+    num: Num,
+    value: Value,
+) -> Result<Left, OutOfMemory>
+    ensures { IfOk result (λ l. l ≡ spec.joined join pos left before expr num value) }
+{
+    let value = join.value(left.value, value);
+    match join {
+        Join::And => with_and(alloc, left, expr, value),
+        Join::Or => with_or(alloc, left, expr, value),
+        Join::Link(op) => with_link(alloc, op, pos, left, before, expr, num, value),
     }
 }
 
@@ -465,7 +602,7 @@ pub fn linked(
     match operand {
         Operand::Number(expr, num, value) => match left.sort {
             Sort::Number(before) => {
-                linked_by(alloc, operator_of(op), pos, left, before, expr, num, value)
+                joined(alloc, join_of(op), pos, left, before, expr, num, value)
             }
             Sort::Object => {
                 typer.refuse(5, pos)?;
@@ -482,4 +619,65 @@ pub fn linked(
             Ok(some_left(alloc))
         }
     }
+}
+
+impl Left {
+    /// The whole chain.
+    pub fn into_operand(self, alloc: Global) -> Result<Operand, OutOfMemory>
+        ensures { IfOk result (λ o. o ≡ spec.chained self) }
+    {
+        match self.sort {
+            Sort::Number(num) => {
+                let expr = self.rest.chain(alloc, self.first)?;
+                Ok(Operand::Number(expr, num, self.value))
+            }
+            Sort::Object => Ok(some_number()),
+            Sort::Unknown => Ok(Operand::Unknown),
+        }
+    }
+}
+
+// ---- the choice of one of two results
+
+/// The choice, in the type to which its results are converted.
+fn choice_in(
+    alloc: Global,
+    num: Num,
+    condition: Operand,
+    first: Operand,
+    second: Operand,
+) -> Result<Operand, OutOfMemory>
+    ensures { IfOk result (λ o. o ≡ spec.choice_in num condition first second) }
+{
+    let value = condition
+        .known_value()
+        .choice(first.known_value(), second.known_value());
+    let condition = Boxed::new(alloc, condition.into_expr())?;
+    let first = Boxed::new(alloc, first.into_expr())?;
+    let second = Boxed::new(alloc, second.into_expr())?;
+    Ok(Operand::Number(
+        Expr::Choice(condition, first, second, num),
+        num,
+        value,
+    ))
+}
+
+/// `?:` with the mark at that place.
+#[tactic(auto, unfolding(crate::specs::Operands::choice))]
+pub fn choice(
+    alloc: Global,
+    typer: &mut Typer,
+    pos: Pos,
+    condition: Operand,
+    first: Operand,
+    second: Operand,
+) -> Result<Operand, OutOfMemory>
+    ensures { Yields (spec.choice pos condition first second typer.old) result typer.new }
+{
+    let is_object = condition.sort().is_object()
+        || first.sort().is_object()
+        || second.sort().is_object();
+    typer.refuse_if(is_object, 5, pos)?;
+    let num = common(first.num(), second.num());
+    choice_in(alloc, num, condition, first, second)
 }

@@ -47,7 +47,7 @@ use Rattle.sa_rules.specs.Spots as seen
 use Rattle.sa_rules.specs.Spots.{is_ill_copied}
 use Rattle.sa_rules.specs.Texts.{in_left, in_right, in_simple, in_directive, in_stmt, in_items, in_item, in_loop_or_item, stray_if, in_main, has_loop}
 use Rattle.sa_rules.proofs.Walks.{broken, faults_at, meant, scene_of, state, value, Reads, Quiet, quiet_gives, quiet_refuses, quiet_then, quiet_unless, quiet, bind, then_here, then_event, then_quiet, ends, all_parts, refused_noted}
-use Rattle.sa_rules.proofs.PlainParts.{IsPlain, Plain, plain_gives, number_plain, prefix_plain, conversion_plain, chain_plain}
+use Rattle.sa_rules.proofs.PlainParts.{IsPlain, Plain, plain_gives, number_plain, prefix_plain, conversion_plain, chain_plain, choice_plain}
 use Rattle.sa_rules.proofs.Steps.{At, AtSpot, seeing, seen_spot, begins_reads as place_begins, free_at, one, one_at, one_as, quiet_one, refused_one, nothing_added}
 use Rattle.sa_rules.proofs.Names.{oldest_seen}
 use Rattle.sa_rules.proofs.Places.{assigns_reads}
@@ -199,7 +199,8 @@ module _ (found : Bool) where
   right_reads os l q (Cast' p m (more_of-Specifiers r qs b end_of-Specifiers) n (more_of-Expr y end_of-Expr)) s =
       stored os l q (conversion_plain p m r qs b n y s) (expr_reads found (Place (seen_spot l) ∷ os) (Cast' p m (more_of-Specifiers r qs b end_of-Specifiers) n (more_of-Expr y end_of-Expr)) s)
   right_reads os l q (Chain' m (more_of-Expr y end_of-Expr) n row) s = stored os l q (chain_plain m y n row s) (expr_reads found (Place (seen_spot l) ∷ os) (Chain' m (more_of-Expr y end_of-Expr) n row) s)
-  right_reads os l q (Choice' o y p m z n w) s = stored os l q (plain_gives tt) (expr_reads found (Place (seen_spot l) ∷ os) (Choice' o y p m z n w) s)
+  right_reads os l q (Choice' o (more_of-Expr y end_of-Expr) p m (more_of-Expr z end_of-Expr) n (more_of-Expr w end_of-Expr)) s =
+      stored os l q (choice_plain o y p m z n w s) (expr_reads found (Place (seen_spot l) ∷ os) (Choice' o (more_of-Expr y end_of-Expr) p m (more_of-Expr z end_of-Expr) n (more_of-Expr w end_of-Expr)) s)
 
   simple_reads : (os : List Open) (y : from_tree.Simple) (s : Typer) → Reads (At os found) s (in_simple y) (λ a. At os found) (simple y s)
   unfolding simple in_simple

@@ -1,6 +1,6 @@
 -- The value that typing knows of an expression is the one that it has by the visible names.
 use Rattle.std.proofs.Common.{◌≡◌, ℕ, Bool, true, false, List, refl, sym, ap, subst, ◌∙◌, Option, Some, None}
-use Rattle.std.specs.Prelude.{option_map}
+use Rattle.std.specs.Prelude.{option_map, if◌then◌else◌, ◌&&◌, ◌||◌}
 use Rattle.sa_base.specs.declared.num.Num.{Num}
 use Rattle.sa_base.specs.declared.pos.Pos.{Pos}
 use Rattle.sa_syntax.specs.declared.decl.Base as base
@@ -10,14 +10,17 @@ use Rattle.sa_syntax.specs.declared.decl.Struct.{Struct, Struct'}
 use Rattle.sa_syntax.specs.declared.expr.Expr as tree
 use Rattle.sa_syntax.specs.declared.expr.Expr.{Number, Place', Bracket', Prefix', Cast', Chain', Choice', end_of-Expr, more_of-Expr, Row_of-Link, end_of-Link, more_of-Link, more_of-Specifiers, end_of-Specifiers}
 use Rattle.sa_syntax.specs.declared.expr.Operator as from
-use Rattle.sa_typed.specs.Arithmetic.{literal_type}
+use Rattle.sa_typed.specs.Arithmetic.{common, literal_type}
 use Rattle.sa_typed.specs.declared.expr.Expr.{Expr}
+use Rattle.sa_typed.specs.declared.expr.Link.{Link}
 use Rattle.sa_typed.specs.declared.expr.Operator.{Operator}
 use Rattle.sa_typed.specs.declared.expr.Prefix.{Prefix}
 use Rattle.sa_scopes.specs.declared.constant.Value.{Value}
 use Rattle.sa_scopes.specs.declared.constant.Value.TheVariants as v
 use Rattle.sa_scopes.specs.declared.form.Form.{Form}
 use Rattle.sa_scopes.specs.declared.form.Form.TheVariants as form
+use Rattle.sa_operands.specs.declared.operand.Join.{Join}
+use Rattle.sa_operands.specs.declared.operand.Join.TheVariants as join
 use Rattle.sa_operands.specs.declared.operand.Left.{Left}
 use Rattle.sa_operands.specs.declared.operand.Spot.{Spot}
 use Rattle.sa_operands.specs.declared.operand.Operand.{Operand}
@@ -34,17 +37,17 @@ use Rattle.sa_scopes.specs.declared.types.Tagged.TheVariants as t
 use Rattle.sa_operands.specs.Definitions as def
 use Rattle.sa_operands.specs.Definitions.{no_fields}
 use Rattle.sa_operands.specs.Expressions.{expr, links, base_type, structure}
-use Rattle.sa_operands.specs.Operands.{known_value, literal, prefix_of, prefixed, cast, cast_to, miscast, operator_of, left_of, some_left, linked, linked_by, chained}
+use Rattle.sa_operands.specs.Operands.{known_value, literal, prefix_of, prefixed, cast, cast_to, miscast, sort_of, is_object, num_or, join_of, joined_value, left_of, some_left, mixed, links_of, ands_of, ors_of, with_link, with_and, with_or, joined, linked, chained, choice_in, choice}
 use Rattle.sa_operands.specs.Places as place
 use Rattle.sa_scopes.specs.Scopes.{Scope, meaning_of}
 use Rattle.sa_scopes.specs.Types.{num_of, scalar, defined, tagged, type_name, alias, not_void, object}
-use Rattle.sa_scopes.specs.Typing.{Typed, Typing, Gives, and_then}
-use Rattle.sa_scopes.specs.Values.{literal_value, prefix_value, operator_value}
+use Rattle.sa_scopes.specs.Typing.{Typed, Typing, Gives, and_then, refuse_if}
+use Rattle.sa_scopes.specs.Values.{literal_value, prefix_value, is_constant, operator_value, and_value, or_value, choice_value}
 use Rattle.sa_scopes.specs.declared.types.Ty.{Ty}
 use Rattle.sa_rules.specs.Scenes.{Meaning, named_type}
-use Rattle.sa_rules.specs.Values.{number_of, cast_type, cast_as, linked_value, value_of, chain_value}
+use Rattle.sa_rules.specs.Values.{number_of, cast_type, cast_as, value_of, chain_value}
 use Rattle.sa_rules.proofs.KeptNames.{Keeps, qualifiers_kept, opened_kept, closed_kept, first_kept, begins_kept, steps_kept, fields_kept, scalar_kept, tagged_kept, not_void_by}
-use Rattle.sa_rules.proofs.QuietParts.{beside_quiet, prefixed_quiet, cast_quiet, linked_quiet}
+use Rattle.sa_rules.proofs.QuietParts.{beside_quiet, prefixed_quiet, cast_quiet, linked_quiet, choice_quiet}
 use Rattle.sa_rules.proofs.Steps.{meaning_seen}
 use Rattle.sa_rules.proofs.Walks.{meant, seen_as, state, value, Quiet}
 
@@ -103,41 +106,71 @@ left_chained (a.Struct x k fixed q) w h = record { is = h; varies = sym h }
 left_chained (a.Array q) w h = record { is = h; varies = sym h }
 left_chained a.Unknown w h = record { is = h; varies = sym h }
 
-by_varies : (o : Option Operator) (w : Value) → linked_value o v.Varies w ≡ v.Varies
-by_varies None w = refl
-by_varies (Some op) w = refl
+by_varies : (j : Join) (w : Value) → joined_value j v.Varies w ≡ v.Varies
+by_varies join.And w = refl
+by_varies join.Or w = refl
+by_varies (join.Link op) w = refl
 
-to_varies : (o : Option Operator) (w : Value) → linked_value o w v.Varies ≡ v.Varies
-to_varies None w = refl
-to_varies (Some op) v.Varies = refl
-to_varies (Some op) v.Unknown = refl
-to_varies (Some op) v.Errs = refl
-to_varies (Some op) (v.Is c) = refl
+no_more : (b : Bool) (w : Value) → (if b && false then w else v.Varies) ≡ v.Varies
+no_more true w = refl
+no_more false w = refl
+
+to_varies : (j : Join) (w : Value) → joined_value j w v.Varies ≡ v.Varies
+to_varies join.And w = no_more (is_constant w) _
+to_varies join.Or w = no_more (is_constant w) _
+to_varies (join.Link op) v.Varies = refl
+to_varies (join.Link op) v.Unknown = refl
+to_varies (join.Link op) (v.Errs num) = refl
+to_varies (join.Link op) (v.Is c) = refl
 
 some_chained : (w : Value) → w ≡ v.Varies → Chained some_left w
 some_chained w h = record { is = sym h; varies = tt }
 
-by_chained : (o : Option Operator) (p : Pos) (l : Left) (before : Num) (e : Expr) (num : Num) (k w : Value) → l.value ≡ w → Chained (linked_by o p l before e num k) (linked_value o w k)
-by_chained None p l before e num k w h = some_chained v.Varies refl
-by_chained (Some op) p l before e num k w h = record { is = ap (λ (x : Value). operator_value op x k) h; varies = tt }
+mixed_chained : (w z : Value) → w ≡ z → Chained (mixed w) z
+mixed_chained w z h = record { is = h; varies = tt }
+
+link_chained : (op : Operator) (p : Pos) (l : Left) (before : Num) (e : Expr) (num : Num) (w z : Value) (o : Option (List Link)) → w ≡ z → Chained (with_link op p l before e num w o) z
+link_chained op p l before e num w z None h = mixed_chained w z h
+link_chained op p l before e num w z (Some ls) h = record { is = h; varies = tt }
+
+and_chained : (l : Left) (e : Expr) (w z : Value) (o : Option (List Expr)) → w ≡ z → Chained (with_and l e w o) z
+and_chained l e w z None h = mixed_chained w z h
+and_chained l e w z (Some es) h = record { is = h; varies = tt }
+
+or_chained : (l : Left) (e : Expr) (w z : Value) (o : Option (List Expr)) → w ≡ z → Chained (with_or l e w o) z
+or_chained l e w z None h = mixed_chained w z h
+or_chained l e w z (Some es) h = record { is = h; varies = tt }
+
+by_chained : (j : Join) (p : Pos) (l : Left) (before : Num) (e : Expr) (num : Num) (k w : Value) → l.value ≡ w → Chained (joined j p l before e num k) (joined_value j w k)
+by_chained join.And p l before e num k w h = and_chained l e (and_value l.value k) (and_value w k) (ands_of l.rest) (ap (λ (x : Value). and_value x k) h)
+by_chained join.Or p l before e num k w h = or_chained l e (or_value l.value k) (or_value w k) (ors_of l.rest) (ap (λ (x : Value). or_value x k) h)
+by_chained (join.Link op) p l before e num k w h = link_chained op p l before e num (operator_value op l.value k) (operator_value op w k) (links_of l.rest) (ap (λ (x : Value). operator_value op x k) h)
+
+-- ---- choices
+choice_is : (p : Pos) (c x y : Operand) (s : Typer) → known_value (value (choice p c x y s)) ≡ choice_value (known_value c) (known_value x) (known_value y)
+unfolding choice
+choice_is p c x y s = given_last (refuse_if (is_object (sort_of c) || is_object (sort_of x) || is_object (sort_of y)) 5 p s) (choice_in (common (num_or x) (num_or y)) c x y)
+  where
+    given_last : (t : Typed (Unit {0})) (i : Operand) → known_value (value (and_then t (λ a s. Gives i s))) ≡ known_value i
+    given_last (Gives a s) i = refl
 
 number_chained : (op : from.Operator) (p : Pos) (l : Left) (e : Expr) (num : Num) (k w : Value) (z : Sort) (s : Typer) → l.sort ≡ z → l.value ≡ w → NoNumber z w →
-    Chained (value (linked op p l (a.Number e num k) s)) (linked_value (operator_of op) w k)
+    Chained (value (linked op p l (a.Number e num k) s)) (joined_value (join_of op) w k)
 unfolding linked
-number_chained op p l e num k w (sort.Number before) s h q r = rw h (by_chained (operator_of op) p _ before e num k w q)
-number_chained op p l e num k w sort.Object s h q r = rw h (some_chained _ (ap (λ (x : Value). linked_value (operator_of op) x k) r ∙ by_varies (operator_of op) k))
-number_chained op p l e num k w sort.Unknown s h q r = rw h (some_chained _ (ap (λ (x : Value). linked_value (operator_of op) x k) r ∙ by_varies (operator_of op) k))
+number_chained op p l e num k w (sort.Number before) s h q r = rw h (by_chained (join_of op) p _ before e num k w q)
+number_chained op p l e num k w sort.Object s h q r = rw h (some_chained _ (ap (λ (x : Value). joined_value (join_of op) x k) r ∙ by_varies (join_of op) k))
+number_chained op p l e num k w sort.Unknown s h q r = rw h (some_chained _ (ap (λ (x : Value). joined_value (join_of op) x k) r ∙ by_varies (join_of op) k))
 
-linked_chained : (op : from.Operator) (p : Pos) (l : Left) (x : Operand) (w : Value) (s : Typer) → Chained l w → Chained (value (linked op p l x s)) (linked_value (operator_of op) w (known_value x))
+linked_chained : (op : from.Operator) (p : Pos) (l : Left) (x : Operand) (w : Value) (s : Typer) → Chained l w → Chained (value (linked op p l x s)) (joined_value (join_of op) w (known_value x))
 unfolding linked
 linked_chained op p l (a.Number e num k) w s c = number_chained op p l e num k w l.sort s refl c.is c.varies
-linked_chained op p l (a.Struct x k fixed q) w s c = some_chained _ (to_varies (operator_of op) w)
-linked_chained op p l (a.Array q) w s c = some_chained _ (to_varies (operator_of op) w)
+linked_chained op p l (a.Struct x k fixed q) w s c = some_chained _ (to_varies (join_of op) w)
+linked_chained op p l (a.Array q) w s c = some_chained _ (to_varies (join_of op) w)
 linked_chained op p l a.Unknown w s c = unknown_chained op p l w s l.sort refl where
-  unknown_chained : (op : from.Operator) (p : Pos) (l : Left) (w : Value) (s : Typer) (z : Sort) → l.sort ≡ z → Chained (value (linked op p l a.Unknown s)) (linked_value (operator_of op) w v.Varies)
-  unknown_chained op p l w s (sort.Number num) h = rw h (some_chained _ (to_varies (operator_of op) w))
-  unknown_chained op p l w s sort.Object h = rw h (some_chained _ (to_varies (operator_of op) w))
-  unknown_chained op p l w s sort.Unknown h = rw h (some_chained _ (to_varies (operator_of op) w))
+  unknown_chained : (op : from.Operator) (p : Pos) (l : Left) (w : Value) (s : Typer) (z : Sort) → l.sort ≡ z → Chained (value (linked op p l a.Unknown s)) (joined_value (join_of op) w v.Varies)
+  unknown_chained op p l w s (sort.Number num) h = rw h (some_chained _ (to_varies (join_of op) w))
+  unknown_chained op p l w s sort.Object h = rw h (some_chained _ (to_varies (join_of op) w))
+  unknown_chained op p l w s sort.Unknown h = rw h (some_chained _ (to_varies (join_of op) w))
 
 whole_by : (l : Left) (w : Value) (z : Sort) → l.sort ≡ z → l.value ≡ w → NoNumber z w → known_value (chained l) ≡ w
 whole_by l w (sort.Number num) h q r = rw h q
@@ -246,13 +279,15 @@ module _ (names : Scope Meaning) where
         gets_then (value_gets x s)
         (λ y t h. gets_then (unnoticed (first_kept row x t))
         (λ a u k. gets_then (chain_gets row (left_of y) (value_of names x) u (left_chained y (value_of names x) h)) (λ l w j. given (whole_chain l (chain_value names row (value_of names x)) j))))
-    value_gets (Choice' l x q m y n z) s = given refl
+    value_gets (Choice' l (more_of-Expr x end_of-Expr) q m (more_of-Expr y end_of-Expr) n (more_of-Expr z end_of-Expr)) s =
+        gets_then (value_gets x s) (λ c t h. gets_then (value_gets y t) (λ i u k. gets_then (value_gets z u) (λ j w g. by_quiet (choice_quiet q c i j w)
+        (choice_is q c i j w ∙ ap (λ (o : Value). choice_value o (known_value i) (known_value j)) h ∙ ap (λ (o : Value). choice_value (value_of names x) o (known_value j)) k ∙ ap (choice_value (value_of names x) (value_of names y)) g))))
 
     chain_gets : {n : _} (row : Row_of-Link n) (l : Left) (w : Value) (s : Typer) → Chained l w → Gets s (λ k. Chained k (chain_value names row w)) (links row l s)
     chain_gets end_of-Link l w s c = given c
     chain_gets (more_of-Link op q x rest) l w s c =
         gets_then
-        (gets_then {R = λ k. Chained k (linked_value (operator_of op) w (value_of names x))} (value_gets x s)
+        (gets_then {R = λ k. Chained k (joined_value (join_of op) w (value_of names x))} (value_gets x s)
         (λ i t h. gets_then (by_quiet {Q = λ (z : Unit {0}). Unit {0}} (beside_quiet op x t) tt)
-        (λ z u k. by_quiet (linked_quiet op q l i u) (subst (λ (j : Value). Chained (value (linked op q l i u)) (linked_value (operator_of op) w j)) h (linked_chained op q l i w u c)))))
-        (λ k t h. chain_gets rest k (linked_value (operator_of op) w (value_of names x)) t h)
+        (λ z u k. by_quiet (linked_quiet op q l i u) (subst (λ (j : Value). Chained (value (linked op q l i u)) (joined_value (join_of op) w j)) h (linked_chained op q l i w u c)))))
+        (λ k t h. chain_gets rest k (joined_value (join_of op) w (value_of names x)) t h)

@@ -73,8 +73,8 @@ module _ (os : List Open) (found : Bool) (x : Expr) where
     value_reads v.Varies s h =
         one_at (λ y. refused_one 18 (expr_pos x) (seeing s (Group ty (dims ++ 1 ∷ []) ∷ os) found y) (fault 18 (expr_pos x) ∷ []) (sees s v.Varies y h) (breaks s v.Varies y h) refl (refused_noted 18 (expr_pos x) s)
         (record { opened = refl; entry = refl }))
-    value_reads v.Errs s h =
-        one_at (λ y. refused_one 18 (expr_pos x) (seeing s (Group ty (dims ++ 1 ∷ []) ∷ os) found y) (fault 18 (expr_pos x) ∷ []) (sees s v.Errs y h) (breaks s v.Errs y h) refl (refused_noted 18 (expr_pos x) s)
+    value_reads (v.Errs num) s h =
+        one_at (λ y. refused_one 18 (expr_pos x) (seeing s (Group ty (dims ++ 1 ∷ []) ∷ os) found y) (fault 18 (expr_pos x) ∷ []) (sees s (v.Errs num) y h) (breaks s (v.Errs num) y h) refl (refused_noted 18 (expr_pos x) s)
         (record { opened = refl; entry = refl }))
     value_reads v.Unknown s h =
         one_at (λ y. one_as (seeing s (Group ty (dims ++ 1 ∷ []) ∷ os) found y) [] (sees s v.Unknown y h) (breaks s v.Unknown y h) refl (nothing_added s) (record { opened = refl; entry = refl }))
@@ -112,8 +112,8 @@ module _ (os : List Open) (found : Bool) (x : Expr) where
     unfolding see
     number_reads num v.Varies s f h =
         one_at (λ y. refused_one 18 (expr_pos x) (seeing s os found y) (fault 18 (expr_pos x) ∷ []) refl (item_breaks s (form.Scalar num) v.Varies y f h) refl (refused_noted 18 (expr_pos x) s) (record { opened = refl; entry = refl }))
-    number_reads num v.Errs s f h =
-        one_at (λ y. refused_one 18 (expr_pos x) (seeing s os found y) (fault 18 (expr_pos x) ∷ []) refl (item_breaks s (form.Scalar num) v.Errs y f h) refl (refused_noted 18 (expr_pos x) s) (record { opened = refl; entry = refl }))
+    number_reads num (v.Errs from) s f h =
+        one_at (λ y. refused_one 18 (expr_pos x) (seeing s os found y) (fault 18 (expr_pos x) ∷ []) refl (item_breaks s (form.Scalar num) (v.Errs from) y f h) refl (refused_noted 18 (expr_pos x) s) (record { opened = refl; entry = refl }))
     number_reads num v.Unknown s f h = one_at (λ y. one_as (seeing s os found y) [] refl (item_breaks s (form.Scalar num) v.Unknown y f h) refl (nothing_added s) (record { opened = refl; entry = refl }))
     number_reads num (v.Is c) s f h = within_by num c (is_of num c.value) s f refl h
 

@@ -43,7 +43,7 @@ use Rattle.sa_scopes.specs.Types.{num_of, qualifier, qualifiers, is_misplaced, s
 use Rattle.sa_scopes.specs.Typing.{Typed, Typing, Gives, and_then, each, pure, refuse, refused, refuse_if, ◌>>◌}
 use Rattle.sa_scopes.specs.Values.{constant}
 use Rattle.sa_rules.proofs.Walks.{state, Quiet}
-use Rattle.sa_rules.proofs.QuietParts.{no_object_quiet, beside_quiet, prefixed_quiet, cast_quiet, linked_quiet, index_quiet, arrow_quiet}
+use Rattle.sa_rules.proofs.QuietParts.{no_object_quiet, beside_quiet, prefixed_quiet, cast_quiet, linked_quiet, choice_quiet, index_quiet, arrow_quiet}
 
 pub record Keeps (s : Typer) {A : Type 0} (t : Typed A) : Type 0 where
   pub names : (state t).names ≡ s.names
@@ -153,7 +153,7 @@ field_kept p x l s = field_of_kept p x (form_at l) l s
 
 constant_kept : (p : Pos) (w : Value) (s : Typer) → Keeps s (constant p w s)
 constant_kept p v.Varies s = kept_refused 18 p
-constant_kept p v.Errs s = kept_refused 18 p
+constant_kept p (v.Errs num) s = kept_refused 18 p
 constant_kept p v.Unknown s = kept
 constant_kept p (v.Is c) s = kept
 
@@ -180,7 +180,8 @@ mutual
       kept_then (qualifiers_kept false true qs s) (λ a t. kept_then (object_kept r qs (base_type r b) t (base_kept r b t)) (λ ty u. kept_then (expr_kept x u) (λ y v. still (cast_quiet q ty.element y v))))
   expr_kept (Chain' m (more_of-Expr x end_of-Expr) n row) s =
       kept_then (expr_kept x s) (λ first t. kept_then (first_kept row x t) (λ a u. kept_then (links_kept row (left_of first) u) (λ l v. kept)))
-  expr_kept (Choice' l x q m y n z) s = kept
+  expr_kept (Choice' l (more_of-Expr x end_of-Expr) q m (more_of-Expr y end_of-Expr) n (more_of-Expr z end_of-Expr)) s =
+      kept_then (expr_kept x s) (λ c t. kept_then (expr_kept y t) (λ i u. kept_then (expr_kept z u) (λ j v. still (choice_quiet q c i j v))))
 
   pub links_kept : {n : _} (row : Row_of-Link n) (l : Left) (s : Typer) → Keeps s (links row l s)
   links_kept end_of-Link l s = kept

@@ -3,7 +3,7 @@ use Rattle.std.proofs.Common.{◌≡◌, ℕ, Bool, true, false, refl}
 use Rattle.sa_base.specs.declared.num.Num.{Num}
 use Rattle.sa_base.specs.declared.pos.Pos.{Pos}
 use Rattle.sa_syntax.specs.declared.expr.Expr as tree
-use Rattle.sa_syntax.specs.declared.expr.Expr.{Number, Prefix', Cast', Chain', end_of-Expr, more_of-Expr, Row_of-Link, more_of-Specifiers, end_of-Specifiers}
+use Rattle.sa_syntax.specs.declared.expr.Expr.{Number, Prefix', Cast', Chain', Choice', end_of-Expr, more_of-Expr, Row_of-Link, more_of-Specifiers, end_of-Specifiers}
 use Rattle.sa_syntax.specs.declared.expr.Prefix as begins
 use Rattle.sa_typed.specs.declared.expr.Prefix.{Prefix}
 use Rattle.sa_operands.specs.declared.operand.Left.{Left}
@@ -16,9 +16,9 @@ use Rattle.sa_scopes.specs.declared.types.Element.{Element}
 use Rattle.sa_scopes.specs.declared.types.Element.TheVariants as el
 use Rattle.sa_scopes.specs.declared.types.Ty.{Ty}
 use Rattle.sa_operands.specs.Expressions.{expr, links, base_type, beside_first}
-use Rattle.sa_operands.specs.Operands.{literal, no_number, prefixed, prefix_of, cast, cast_to, miscast, left_of, chained}
+use Rattle.sa_operands.specs.Operands.{literal, no_number, prefixed, prefix_of, cast, cast_to, miscast, left_of, chained, choice}
 use Rattle.sa_scopes.specs.Types.{object, qualifiers}
-use Rattle.sa_scopes.specs.Typing.{Typed, Typing, Gives, and_then, refused}
+use Rattle.sa_scopes.specs.Typing.{Typed, Typing, Gives, and_then, refused, refuse_if}
 use Rattle.sa_rules.proofs.Walks.{value}
 
 abbrev pub IsPlain : Operand → Type 0
@@ -85,6 +85,12 @@ pub conversion_plain : (p : Pos) (m : _) (r : Pos) (qs : _) (b : _) (n : _) (y :
 unfolding expr
 conversion_plain p m r qs b n y s =
     plain_then {A = Unit {0}} (qualifiers false true qs s) _ (λ c t. plain_then {A = Ty} (object r qs (base_type r b) t) _ (λ ty u. plain_then {A = Operand} (expr y u) _ (λ j v. cast_plain p ty.element j v)))
+
+pub choice_plain : (l : _) (x : tree.Expr) (p : Pos) (m : _) (y : tree.Expr) (n : _) (z : tree.Expr) (s : Typer) →
+    Plain (expr (Choice' l (more_of-Expr x end_of-Expr) p m (more_of-Expr y end_of-Expr) n (more_of-Expr z end_of-Expr)) s)
+unfolding expr choice
+choice_plain l x p m y n z s =
+    plain_then {A = Operand} (expr x s) _ (λ c t. plain_then {A = Operand} (expr y t) _ (λ i u. plain_then {A = Operand} (expr z u) _ (λ j v. plain_then {A = Unit {0}} (refuse_if _ 5 p v) _ (λ b w. plain_gives tt))))
 
 pub chain_plain : (m : _) (y : tree.Expr) (n : _) (row : _) (s : Typer) → Plain (expr (Chain' m (more_of-Expr y end_of-Expr) n row) s)
 unfolding expr

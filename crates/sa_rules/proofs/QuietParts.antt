@@ -1,6 +1,6 @@
 -- Helpers of typing that do nothing with what is visible, and refuse with other codes only.
 use Rattle.std.proofs.Common.{◌≡◌, ℕ, Bool, true, false, refl, Option, Some, None}
-use Rattle.std.specs.Prelude.{if◌then◌else◌}
+use Rattle.std.specs.Prelude.{if◌then◌else◌, ◌||◌}
 use Rattle.sa_base.specs.declared.num.Num.{Num}
 use Rattle.sa_base.specs.declared.pos.Pos.{Pos}
 use Rattle.sa_syntax.specs.declared.expr.Expr as tree
@@ -19,7 +19,7 @@ use Rattle.sa_operands.specs.declared.operand.Spot.{Spot}
 use Rattle.sa_scopes.specs.declared.typer.Typer.{Typer}
 use Rattle.sa_scopes.specs.declared.types.Element.{Element}
 use Rattle.sa_scopes.specs.declared.types.Element.TheVariants as el
-use Rattle.sa_operands.specs.Operands.{no_object, with_threshold, beside, is_comparison, by_itself, prefixed, no_number, cast, cast_to, miscast, linked, sort_of, is_object, expr_or}
+use Rattle.sa_operands.specs.Operands.{no_object, with_threshold, beside, is_comparison, by_itself, prefixed, no_number, cast, cast_to, miscast, linked, choice, sort_of, is_object, expr_or}
 use Rattle.sa_operands.specs.Places.{index, element_of, arrow, is_known, form_at, indexed_with}
 use Rattle.sa_scopes.specs.Typing.{Typing}
 use Rattle.sa_rules.proofs.Walks.{Quiet, quiet_gives, quiet_refuses, quiet_then, quiet_unless}
@@ -84,6 +84,10 @@ linked_quiet op p l (a.Number e num x) s = linked_number_quiet op p l e num x l.
 linked_quiet op p l (a.Struct x k fixed q) s = quiet_refuses 5 p refl
 linked_quiet op p l (a.Array q) s = quiet_refuses 5 p refl
 linked_quiet op p l a.Unknown s = quiet_then (quiet_unless (is_object l.sort) 5 p refl) (λ b t. quiet_gives)
+
+pub choice_quiet : (p : Pos) (c x y : Operand) (s : Typer) → Quiet s (choice p c x y s)
+unfolding choice
+choice_quiet p c x y s = quiet_then (quiet_unless (is_object (sort_of c) || is_object (sort_of x) || is_object (sort_of y)) 5 p refl) (λ b t. quiet_gives)
 
 -- ---- places
 element_quiet : (p : Pos) (i : Expr) (o : Option Form) (l : Spot) (s : Typer) → Quiet s (element_of p i o l s)

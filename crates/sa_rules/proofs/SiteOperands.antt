@@ -28,7 +28,7 @@ use Rattle.sa_scopes.specs.Scopes.{meaning_of}
 use Rattle.sa_scopes.specs.Structures.{member_of}
 use Rattle.sa_scopes.specs.Typing.{Typed, Typing, Gives, and_then, refuse_if}
 use Rattle.sa_rules.specs.Sites.{of_begin, of_expr, of_steps}
-use Rattle.sa_rules.proofs.PlainParts.{IsPlain, Plain, number_plain, prefix_plain, conversion_plain, chain_plain}
+use Rattle.sa_rules.proofs.PlainParts.{IsPlain, Plain, number_plain, prefix_plain, conversion_plain, chain_plain, choice_plain}
 use Rattle.sa_rules.proofs.SiteParts.{OperandAt}
 use Rattle.sa_rules.proofs.SiteWalks.{Sub, sub_left, sub_head}
 use Rattle.sa_rules.proofs.Walks.{value}
@@ -153,4 +153,4 @@ module _ (P : Pos → Type 0) where
   expr_operands (Prefix' o p m (more_of-Expr y end_of-Expr)) s h = plain_operands (prefix_plain o p m y s)
   expr_operands (Cast' p k (more_of-Specifiers r qs b end_of-Specifiers) m (more_of-Expr y end_of-Expr)) s h = plain_operands (conversion_plain p k r qs b m y s)
   expr_operands (Chain' k (more_of-Expr y end_of-Expr) m row) s h = plain_operands (chain_plain k y m row s)
-  expr_operands (Choice' o y p k z m w) s h = record { operands = tt }
+  expr_operands (Choice' o (more_of-Expr y end_of-Expr) p k (more_of-Expr z end_of-Expr) m (more_of-Expr w end_of-Expr)) s h = plain_operands (choice_plain o y p k z m w s)

@@ -1,6 +1,6 @@
 -- What the helpers of typing may refuse.
 use Rattle.std.proofs.Common.{◌≡◌, ℕ, Bool, true, List, [], refl, inl, Option, Some, None}
-use Rattle.std.specs.Prelude.{ℤ}
+use Rattle.std.specs.Prelude.{ℤ, ◌||◌}
 use Rattle.sa_base.specs.declared.num.Num.{Num}
 use Rattle.sa_base.specs.declared.pos.Pos.{Pos}
 use Rattle.sa_syntax.specs.declared.decl.Name.{Name}
@@ -23,7 +23,7 @@ use Rattle.sa_scopes.specs.declared.typer.Typer.{Typer}
 use Rattle.sa_scopes.specs.declared.types.Element.{Element}
 use Rattle.sa_scopes.specs.declared.types.Element.TheVariants as el
 use Rattle.sa_operands.specs.Definitions.{is_dimension, dimension_by, dimension}
-use Rattle.sa_operands.specs.Operands.{no_object, with_threshold, beside, is_comparison, by_itself, prefixed, no_number, cast, cast_to, miscast, linked, sort_of, is_object, known_value, expr_or}
+use Rattle.sa_operands.specs.Operands.{no_object, with_threshold, beside, is_comparison, by_itself, prefixed, no_number, cast, cast_to, miscast, linked, choice, sort_of, is_object, known_value, expr_or}
 use Rattle.sa_operands.specs.Places.{index, element_of, field, field_of, to_member, arrow, is_known, form_at, indexed_with}
 use Rattle.sa_scopes.specs.Structures.{member_of}
 use Rattle.sa_scopes.specs.Values.{constant}
@@ -63,7 +63,7 @@ module _ (P : Pos → Type 0) where
   -- ---- constants
   constant_adds : (p : Pos) (x : Value) (s : Typer) → Adds P s (constant p x s)
   constant_adds p v.Varies s = adds_other P 18 p refl
-  constant_adds p v.Errs s = adds_other P 18 p refl
+  constant_adds p (v.Errs num) s = adds_other P 18 p refl
   constant_adds p v.Unknown s = adds_none P
   constant_adds p (v.Is c) s = adds_none P
 
@@ -150,6 +150,10 @@ module _ (P : Pos → Type 0) where
   linked_adds op p l (a.Struct x k fixed q) s h = adds_refusal P p h
   linked_adds op p l (a.Array q) s h = adds_refusal P p h
   linked_adds op p l a.Unknown s h = adds_then P (adds_unless P (is_object l.sort) p h) (λ b t. adds_none P)
+
+  pub choice_adds : (p : Pos) (c x y : Operand) (s : Typer) → P p → Adds P s (choice p c x y s)
+  unfolding choice
+  choice_adds p c x y s h = adds_then P (adds_unless P (is_object (sort_of c) || is_object (sort_of x) || is_object (sort_of y)) p h) (λ b t. adds_none P)
 
   -- ---- places
   root_adds : (p : Pos) (o : Option named.Named) (s : Typer) → P p → Adds P s (root_by p o s)

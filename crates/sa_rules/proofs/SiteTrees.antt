@@ -28,7 +28,7 @@ use Rattle.sa_rules.specs.Sites.{of_begin, of_expr, of_links, of_steps, of_step,
 use Rattle.sa_rules.proofs.SiteWalks.{Adds, Sub, sub_left, sub_right, sub_head, sub_rest, adds_none, adds_then, adds_here, adds_all}
 use Rattle.sa_rules.proofs.Walks.{state, value}
 use Rattle.sa_rules.proofs.SiteOperands.{expr_operands}
-use Rattle.sa_rules.proofs.SiteParts.{dimension_adds, beside_adds, prefixed_adds, cast_adds, linked_adds, begins_adds, index_adds, field_adds, arrow_adds, scalar_adds, tagged_adds, type_name_adds, not_void_adds, qualifiers_adds, opened_adds, closed_adds, member_name_adds}
+use Rattle.sa_rules.proofs.SiteParts.{dimension_adds, beside_adds, prefixed_adds, cast_adds, linked_adds, choice_adds, begins_adds, index_adds, field_adds, arrow_adds, scalar_adds, tagged_adds, type_name_adds, not_void_adds, qualifiers_adds, opened_adds, closed_adds, member_name_adds}
 
 module _ (P : Pos → Type 0) where
   first_adds : {n : _} (row : Row_of-Link n) (x : Expr) (s : Typer) → Adds P s (beside_first row x s)
@@ -56,7 +56,11 @@ module _ (P : Pos → Type 0) where
     expr_adds (Chain' m (more_of-Expr x end_of-Expr) n row) s h =
         adds_then P (expr_adds x s (sub_left (of_expr x) (of_links row) h)) (λ first t. adds_then P (first_adds row x t)
         (λ a u. adds_then P (links_adds row (left_of first) u (sub_right (of_expr x) (of_links row) h)) (λ l v. adds_none P)))
-    expr_adds (Choice' l x q m y n z) s h = adds_none P
+    expr_adds (Choice' l (more_of-Expr x end_of-Expr) q m (more_of-Expr y end_of-Expr) n (more_of-Expr z end_of-Expr)) s h =
+        let parts = sub_rest q (of_expr x ++ (of_expr y ++ of_expr z)) h in
+        let ends = sub_right (of_expr x) (of_expr y ++ of_expr z) parts in
+        adds_then P (expr_adds x s (sub_left (of_expr x) (of_expr y ++ of_expr z) parts)) (λ c t. adds_then P (expr_adds y t (sub_left (of_expr y) (of_expr z) ends))
+        (λ i u. adds_then P (expr_adds z u (sub_right (of_expr y) (of_expr z) ends)) (λ j v. choice_adds P q c i j v (sub_head q (of_expr x ++ (of_expr y ++ of_expr z)) h))))
 
     links_adds : {n : _} (row : Row_of-Link n) (l : Left) (s : Typer) → Sub P (of_links row) → Adds P s (links row l s)
     links_adds end_of-Link l s h = adds_none P

@@ -33,7 +33,7 @@ use Rattle.sa_rules.proofs.Names.{Next, opened_reads, closed_reads, field_reads,
 use Rattle.sa_rules.proofs.Places.{index_reads, field_reads as place_field_reads, arrow_reads, loads}
 use Rattle.sa_rules.proofs.Dimensions.{known_there, dimension_reads}
 use Rattle.sa_rules.proofs.Qualifiers.{plain_qualifiers, field_qualifiers}
-use Rattle.sa_rules.proofs.QuietParts.{beside_quiet, prefixed_quiet, cast_quiet, linked_quiet}
+use Rattle.sa_rules.proofs.QuietParts.{beside_quiet, prefixed_quiet, cast_quiet, linked_quiet, choice_quiet}
 
 beside_first_quiet : {n : _} (row : Row_of-Link n) (x : Expr) (s : Typer) → Quiet s (beside_first row x s)
 beside_first_quiet end_of-Link x s = quiet_gives
@@ -57,7 +57,8 @@ module _ (found : Bool) where
         (λ ty u. ends (expr_reads os x u) (λ y v. cast_quiet q ty.element y v)))
     expr_reads os (Chain' m (more_of-Expr x end_of-Expr) n row) s =
         bind (expr_reads os x s) (λ first t. bind (quiet (beside_first_quiet row x t)) (λ a u. ends (links_reads os row (left_of first) u) (λ l v. quiet_gives)))
-    expr_reads os (Choice' l x q m y n z) s = quiet quiet_gives
+    expr_reads os (Choice' l (more_of-Expr x end_of-Expr) q m (more_of-Expr y end_of-Expr) n (more_of-Expr z end_of-Expr)) s =
+        bind (expr_reads os x s) (λ c t. bind (expr_reads os y t) (λ i u. ends (expr_reads os z u) (λ j v. choice_quiet q c i j v)))
 
     links_reads : {n : _} (os : List Open) (row : Row_of-Link n) (l : Left) (s : Typer) → Reads (At os found) s (in_links row) (λ l. At os found) (links row l s)
     links_reads os end_of-Link l s = quiet quiet_gives

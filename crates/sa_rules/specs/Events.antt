@@ -113,7 +113,7 @@ unfoldable mutual
   in_expr (Prefix' op p n (more_of-Expr x end_of-Expr)) = in_expr x
   in_expr (Cast' p m (more_of-Specifiers q qs b end_of-Specifiers) n (more_of-Expr x end_of-Expr)) = misplaced is_volatile qs ++ (((in_base q b ++ Qualifies qs ∷ []) ++ Object q ∷ []) ++ in_expr x)
   in_expr (Chain' m (more_of-Expr x end_of-Expr) n row) = in_expr x ++ in_links row
-  in_expr (Choice' l x p m y n z) = []
+  in_expr (Choice' l (more_of-Expr x end_of-Expr) p m (more_of-Expr y end_of-Expr) n (more_of-Expr z end_of-Expr)) = in_expr x ++ (in_expr y ++ in_expr z)
 
   pub in_links : {n : _} → Row_of-Link n → List Event
   in_links end_of-Link = []

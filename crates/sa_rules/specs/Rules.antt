@@ -78,7 +78,7 @@ ill_copied m _ = None
 -- is for a number
 abbrev pub unless_known : Pos → Value → Option Pos
 unless_known p Varies = Some p
-unless_known p Errs = Some p
+unless_known p (Errs num) = Some p
 unless_known p _ = None
 
 abbrev pub unless_known_for : Form → Pos → Value → Option Pos

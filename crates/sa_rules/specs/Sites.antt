@@ -56,7 +56,7 @@ unfoldable mutual
   of_expr (Prefix' op p n (more_of-Expr x end_of-Expr)) = p ∷ of_expr x
   of_expr (Cast' p m (more_of-Specifiers q qs b end_of-Specifiers) n (more_of-Expr x end_of-Expr)) = p ∷ (of_base b ++ of_expr x)
   of_expr (Chain' m (more_of-Expr x end_of-Expr) n row) = of_expr x ++ of_links row
-  of_expr (Choice' l x p m y n z) = []
+  of_expr (Choice' l (more_of-Expr x end_of-Expr) p m (more_of-Expr y end_of-Expr) n (more_of-Expr z end_of-Expr)) = p ∷ (of_expr x ++ (of_expr y ++ of_expr z))
 
   pub of_links : {n : _} → Row_of-Link n → List Pos
   of_links end_of-Link = []

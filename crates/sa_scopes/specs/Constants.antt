@@ -3,6 +3,7 @@
 use Rattle.std.specs.Prelude.{ℕ, ℤ, pos, List, [], ◌∷◌, Bool, true, false, if◌then◌else◌, Option, Some, None, Result, Ok, Err}
 use Rattle.sa_base.specs.declared.alarm.Kind.{Kind}
 use Rattle.sa_base.specs.declared.num.Num.{Num}
+use Rattle.sa_base.specs.declared.num.Num.TheVariants.{I32}
 use Rattle.sa_base.specs.declared.pos.Pos.{Pos}
 use Rattle.sa_typed.specs.declared.expr.Operator.{Operator}
 use Rattle.sa_typed.specs.declared.expr.Operator.TheVariants as o
@@ -17,6 +18,10 @@ pub record Constant : Type 0 where
 -- the constant with that number, where the type holds it
 unfoldable pub held : Num → ℤ → Option Constant
 held num z = if is_of num z then Some (record { num = num; value = z }) else None
+
+-- what `&&` and `||` give (6.5.13p3, 6.5.14p3)
+abbrev pub truth_of : Bool → Constant
+truth_of b = record { num = I32; value = if b then pos 1 else pos 0 }
 
 -- the type in which an operator works (6.3.1.8, 6.5.7p3)
 abbrev pub working : Operator → Num → Num → Num

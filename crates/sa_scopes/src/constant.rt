@@ -2,6 +2,7 @@
 
 ghost use Rattle.std.specs.Prelude.{◌≡◌, IfSome};
 ghost use Rattle.sa_typed.specs.Arithmetic.{IsOf};
+ghost use Rattle.sa_typed.specs.Evaluation.{is_zero};
 ghost use Rattle.sa_scopes.specs.Constants as spec;
 ghost use Rattle.sa_scopes.specs.Values as value;
 ghost use Rattle.sa_scopes.specs.Typing.{Yields};
@@ -52,6 +53,30 @@ impl Constant {
         } else {
             None
         }
+    }
+
+    /// What `&&` and `||` give, as an `int`.
+    fn of_truth(holds: bool) -> Constant
+        ensures { result ≡ spec.truth_of holds }
+    {
+        if holds {
+            Constant {
+                num: Num::I32,
+                value: 1,
+            }
+        } else {
+            Constant {
+                num: Num::I32,
+                value: 0,
+            }
+        }
+    }
+
+    /// Whether it counts as false (ISO C 6.5.13).
+    fn is_zero(self) -> bool
+        ensures { result ≡ is_zero self.value }
+    {
+        self.value == 0
     }
 
     /// Its type.
@@ -118,16 +143,16 @@ pub enum Value {
     Varies,
     /// It is one, but a part of it was refused.
     Unknown,
-    /// It is one, and its evaluation errs.
-    Errs,
+    /// It is one of that type, and its evaluation errs.
+    Errs(Num),
     Is(Constant),
 }
 
-fn value_of(constant: Option<Constant>) -> Value
-    ensures { result ≡ value.value_of constant }
+fn value_of(num: Num, constant: Option<Constant>) -> Value
+    ensures { result ≡ value.value_of num constant }
 {
     match constant {
-        None => Value::Errs,
+        None => Value::Errs(num),
         Some(constant) => Value::Is(constant),
     }
 }
@@ -136,7 +161,14 @@ fn value_of(constant: Option<Constant>) -> Value
 pub fn literal_value(num: Num, literal: u64) -> Value
     ensures { result ≡ value.literal_value num literal }
 {
-    value_of(Constant::of(num, i128::from(literal)))
+    value_of(num, Constant::of(num, i128::from(literal)))
+}
+
+/// The type of an operator's result.
+fn operated_type(op: Operator, a: Num, b: Num) -> Num
+    ensures { result ≡ value.operated_type op a b }
+{
+    op.result_type(working(op, a, b))
 }
 
 impl Value {
@@ -145,8 +177,11 @@ impl Value {
         ensures { result ≡ value.prefix_value op self }
     {
         match self {
-            Value::Is(constant) => value_of(constant.prefixed(op)),
-            _ => self,
+            Value::Is(constant) => {
+                value_of(op.result_type(promoted(constant.num())), constant.prefixed(op))
+            }
+            Value::Errs(num) => Value::Errs(op.result_type(promoted(num))),
+            Value::Varies | Value::Unknown => self,
         }
     }
 
@@ -155,8 +190,9 @@ impl Value {
         ensures { result ≡ value.cast_value num self }
     {
         match self {
-            Value::Is(constant) => value_of(constant.cast(num)),
-            _ => self,
+            Value::Is(constant) => value_of(num, constant.cast(num)),
+            Value::Errs(_) => Value::Errs(num),
+            Value::Varies | Value::Unknown => self,
         }
     }
 
@@ -180,16 +216,117 @@ impl Value {
                 Value::Varies => Value::Varies,
                 _ => Value::Unknown,
             },
-            Value::Errs => match other {
+            Value::Errs(a) => match other {
                 Value::Varies => Value::Varies,
                 Value::Unknown => Value::Unknown,
-                _ => Value::Errs,
+                Value::Errs(b) => Value::Errs(operated_type(op, a, b)),
+                Value::Is(b) => Value::Errs(operated_type(op, a, b.num())),
             },
             Value::Is(a) => match other {
-                Value::Is(b) => value_of(a.operated(op, b)),
-                _ => other,
+                Value::Varies => Value::Varies,
+                Value::Unknown => Value::Unknown,
+                Value::Errs(b) => Value::Errs(operated_type(op, a.num(), b)),
+                Value::Is(b) => value_of(operated_type(op, a.num(), b.num()), a.operated(op, b)),
             },
         }
+    }
+
+    /// Whether it isn't 0, as an `int`.
+    fn truth(self) -> Value
+        ensures { result ≡ value.truth self }
+    {
+        match self {
+            Value::Is(constant) => Value::Is(Constant::of_truth(!constant.is_zero())),
+            Value::Errs(_) => Value::Errs(Num::I32),
+            Value::Varies | Value::Unknown => self,
+        }
+    }
+
+    /// With `&&` and another value after it, which counts only where it isn't 0 (ISO C 6.5.13).
+    pub fn and(self, other: Value) -> Value
+        ensures { result ≡ value.and_value self other }
+    {
+        if !(self.is_constant() && other.is_constant()) {
+            return Value::Varies;
+        }
+        match self {
+            Value::Varies | Value::Unknown => self,
+            Value::Errs(_) => Value::Errs(Num::I32),
+            Value::Is(constant) => {
+                if constant.is_zero() {
+                    Value::Is(Constant::of_truth(false))
+                } else {
+                    other.truth()
+                }
+            }
+        }
+    }
+
+    /// With `||` and another value after it, which counts only where it is 0 (ISO C 6.5.14).
+    pub fn or(self, other: Value) -> Value
+        ensures { result ≡ value.or_value self other }
+    {
+        if !(self.is_constant() && other.is_constant()) {
+            return Value::Varies;
+        }
+        match self {
+            Value::Varies | Value::Unknown => self,
+            Value::Errs(_) => Value::Errs(Num::I32),
+            Value::Is(constant) => {
+                if constant.is_zero() {
+                    other.truth()
+                } else {
+                    Value::Is(Constant::of_truth(true))
+                }
+            }
+        }
+    }
+
+    /// The type of a constant expression, where it is known.
+    fn num(self) -> Num
+        ensures { result ≡ value.type_of self }
+    {
+        match self {
+            Value::Is(constant) => constant.num(),
+            Value::Errs(num) => num,
+            Value::Varies | Value::Unknown => Num::I32,
+        }
+    }
+
+    /// The part of a `?:` that this condition chooses, in the type that both have in common. All are constant and known.
+    fn chosen(self, num: Num, first: Value, second: Value) -> Value
+        ensures { result ≡ value.chosen num self first second }
+    {
+        match self {
+            Value::Is(constant) => {
+                if constant.is_zero() {
+                    second.cast(num)
+                } else {
+                    first.cast(num)
+                }
+            }
+            _ => Value::Errs(num),
+        }
+    }
+
+    /// As the condition of a `?:` with such parts, of which one counts (ISO C 6.5.15).
+    pub fn choice(self, first: Value, second: Value) -> Value
+        ensures { result ≡ value.choice_value self first second }
+    {
+        if !(self.is_constant() && first.is_constant() && second.is_constant()) {
+            return Value::Varies;
+        }
+        if !(self.is_known() && first.is_known() && second.is_known()) {
+            return Value::Unknown;
+        }
+        self.chosen(common(first.num(), second.num()), first, second)
+    }
+
+    /// Whether no part of it was refused.
+    fn is_known(self) -> bool
+        ensures { result ≡ value.is_known self }
+    {
+        !matches!(self, Value::Unknown)
     }
 
     /// Whether it is that of a constant expression.
@@ -205,7 +342,7 @@ pub fn needed(typer: &mut Typer, pos: Pos, known: Value) -> Result<Option<i128>,
     ensures { Yields (value.constant pos known typer.old) result typer.new }
 {
     match known {
-        Value::Varies | Value::Errs => {
+        Value::Varies | Value::Errs(_) => {
             typer.refuse(18, pos)?;
             Ok(None)
         }

@@ -89,9 +89,14 @@ built_is None (Accepts x) p h = let e : x ≡ p = cc in ap Accepts e
 built_is None (Refuses r) p h = cc
 built_is None TooManyCells p h = cc
 
+none_unbuilt : (o : Option Pos) (a : Answer) (p : Program) → unless_unbuilt o a ≡ Built p → o ≡ None
+none_unbuilt (Some q) a p h = cc
+none_unbuilt None a p h = refl
+
 typed : (source : List ℕ) (p : Program) → IsAccepted source p → IsTyped p
 unfolding reading_of
-typed source p h = accepted_typed h.tree (end_pos source) p (built_is (first_unbuilt h.tree) (answer h.tree (end_pos source)) p h.read)
+typed source p h =
+    accepted_typed h.tree (end_pos source) p (built_is (first_unbuilt h.tree) (answer h.tree (end_pos source)) p h.read) (none_unbuilt (first_unbuilt h.tree) (answer h.tree (end_pos source)) p h.read)
 
 pub sound : Sound
 sound source p built tape n =

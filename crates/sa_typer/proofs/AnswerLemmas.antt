@@ -11,6 +11,7 @@ use Rattle.sa_typer.specs.declared.fault.TypeFault.{TypeFault}
 use Rattle.sa_typer.specs.declared.fault.TypeFault.TheVariants as f
 use Rattle.sa_typer.specs.Answers.{IsFault}
 use Rattle.sa_typer.specs.Units.{answer, Answer, Accepts, Tells}
+use Rattle.sa_unbuilt.specs.Unbuilt.{IsBuilt}
 use Rattle.sa_typer.proofs.UnitLaws.{accepted_typed, accepted_program, accepted_small}
 
 pub told_accepted : (a : Answer) (r : Result Program TypeFault) → Tells a r → IfOk r (λ p. a ≡ Accepts p)
@@ -23,9 +24,9 @@ told_refused u end (Err (f.Refused r)) h = h
 told_refused u end (Err (f.TooMany limit)) h = h
 told_refused u end (Err f.OutOfMemory) h = tt
 
-pub told_typed : (u : Source) (end : Pos) (r : Result Program TypeFault) → Tells (answer u end) r → IfOk r IsTyped
-told_typed u end (Ok p) h = accepted_typed u end p h
-told_typed u end (Err e) h = tt
+pub told_typed : (u : Source) (end : Pos) (r : Result Program TypeFault) → IsBuilt u → Tells (answer u end) r → IfOk r IsTyped
+told_typed u end (Ok p) b h = accepted_typed u end p h b
+told_typed u end (Err e) b h = tt
 
 pub told_program : (u : Source) (end : Pos) (r : Result Program TypeFault) → Tells (answer u end) r → IfOk r IsTypedProgram
 told_program u end (Ok p) h = accepted_program u end p h

@@ -1,4 +1,8 @@
 pub mod StmtRows
+pub mod StraightExprs
+pub mod StraightWalks
+pub mod StraightStmts
+pub mod StraightUnits
 pub mod BodyLemmas
 pub mod UnitLemmas
 pub mod StmtLaws

@@ -2,35 +2,29 @@
 -- are simple ones and blocks, and the clock loop.
 use Rattle.std.proofs.Common.{◌≡◌, ℕ, zero, suc, ◌<◌, Bool, true, false, List, [], ◌∷◌, ◌++◌, length, map, refl, sym, ap, subst, ◌∙◌, arith, Option, Some, None, ◌⊎◌, inl, inr}
 use Rattle.std.specs.List.{AllByRecursion}
-use Rattle.std.specs.Prelude.{slice_get}
+use Rattle.std.specs.Prelude.{slice_get, IsTrue}
 use Rattle.sa_base.specs.declared.num.Num.{Num}
 use Rattle.sa_base.specs.declared.num.Num.TheVariants.{I8, U8, I16, U16, I32, U32, I64, U64}
 use Rattle.sa_base.specs.declared.pos.Pos.{Pos}
-use Rattle.sa_typed.specs.Arithmetic.{result_type}
 use Rattle.sa_typed.specs.Executions.{params_of}
-use Rattle.sa_typed.specs.Layouts.{Layout, leaf, fields, no_field, nth_field, layout_of, var_layout}
-use Rattle.sa_typed.specs.WellTyped.{type_of, IsTypedExpr, AreTypedLinks, AreTypedSteps, steps_layout, IsRead, IsTypedAccess, IsFixedAccess, IsTypedStart, IsTypedSimple, IsTypedStmt, AreTypedStmts, HasTypedItems}
-use Rattle.sa_typed.specs.TypedExpressions.{LeadsThere, IsPromoted, variables_in, variables_in_links, variables_in_steps, is_named_by, IsNamed, AreNamed, IsExpression, IsPlace, IsVariable, ChangesVariable, IsLeftSide, is_reference, is_through_reference, IsFixedPlace}
-use Rattle.sa_typed.specs.TypedPrograms.{AreDistinct, is_parameter, IsTypedBeginning, IsSimple, IsStatement, AreStatements, IsEmpty, IsWait, IsTurn, IsClockLoop, IsMainBlock, IsMainBody, IsMain, Site, calls_in, calls_in_all, loops_at, loops_at_all, calls_of, loops_of, IsFunction, AreRanked, IsTypedProgram}
+use Rattle.sa_typed.specs.WellTyped.{is_fixed_read, HasTypedItems}
+use Rattle.sa_typed.specs.TypedExpressions.{is_reference, is_through_reference, IsFixedPlace}
+use Rattle.sa_typed.specs.TypedPrograms.{AreDistinct, is_parameter, IsSimple, IsStatement, AreStatements, IsEmpty, IsWait, IsTurn, IsClockLoop, IsMainBlock, IsMainBody, IsMain, Site, calls_in, calls_in_all, loops_at, loops_at_all, calls_of, loops_of, IsFunction, AreRanked, IsTypedProgram}
 use Rattle.sa_typed.specs.declared.expr.Access.{Access}
-use Rattle.sa_typed.specs.declared.expr.Expr.{Expr, Number, Read', Input, Prefix', Cast', Chain', And', Or', Choice', end_of-Expr, more_of-Expr, Row_of-Link, end_of-Link, more_of-Link, Row_of-Step, end_of-Step, more_of-Step}
+use Rattle.sa_typed.specs.declared.expr.Expr.{Expr, Read'}
 use Rattle.sa_typed.specs.declared.expr.Expr.TheVariants as e
-use Rattle.sa_typed.specs.declared.expr.Step.{At', Field}
 use Rattle.sa_typed.specs.declared.program.Func.{Func}
 use Rattle.sa_typed.specs.declared.program.Program.{Program}
 use Rattle.sa_typed.specs.declared.program.Var.{Var}
 use Rattle.sa_typed.specs.declared.stmt.Simple.{Simple}
 use Rattle.sa_typed.specs.declared.stmt.Simple.TheVariants.{Declare, Assign, Compound, Copy}
-use Rattle.sa_typed.specs.declared.stmt.Start.{Start}
-use Rattle.sa_typed.specs.declared.stmt.Start.TheVariants as begins
 use Rattle.sa_typed.specs.declared.stmt.Stmt.{Stmt, Row_of-Stmt, end_of-Stmt, more_of-Stmt, items-the_row-Stmt, items_hidden-the_row-Stmt-0}
 use Rattle.sa_typed.specs.declared.stmt.Stmt.TheVariants as t
-use Rattle.sa_typed.proofs.LinkLaws.{typed_still, steps_still}
 use Rattle.sa_scopes.specs.declared.typer.Typer.{Typer}
 use Rattle.sa_scopes.specs.declared.types.Element.{Element}
 use Rattle.sa_scopes.specs.declared.types.Element.TheVariants as el
 use Rattle.sa_scopes.proofs.WalkLaws.{no_fault}
-use Rattle.sa_operands.proofs.RowLaws.{NamesVariable, IsPromotedStart, IsFree, IsFreeStmt, AreFree, AllStmts, typed_append, whole_typed, clock_typed}
+use Rattle.sa_operands.proofs.RowLaws.{GoodSimple, GoodStmt, AreGood, AllStmts}
 use Rattle.sa_typer.specs.declared.bodies.Entry.{Entry}
 use Rattle.sa_typer.specs.Bodies.{clock_stmt}
 use Rattle.sa_typer.specs.Units.{is_entry_type, result_of, function, program}
@@ -49,143 +43,57 @@ abbrev pub IsMainList : Program → Bool → List Stmt → Type 0
 IsMainList p false ss = AllStmts p ss
 IsMainList p true ss = EndsInClock p ss
 
-pub main_typed : (p : Program) (ss : List Stmt) → EndsInClock p ss → IsTypedStmt p (t.Block ss)
-main_typed p ss h =
-    let clock = clock_stmt h.place h.turn in
-    subst (λ (xs : List Stmt). IsTypedStmt p (t.Block xs)) (sym h.is) (whole_typed p (h.before ++ clock ∷ []) (typed_append p h.before clock h.befores (clock_typed p h.place h.turn h.turns)))
-
-all_both : {A : Type 0} (P : A → Type 0) (xs ys : List A) → AllByRecursion P xs → AllByRecursion P ys → AllByRecursion P (xs ++ ys)
-all_both P [] ys h k = k
-all_both P (x ∷ xs) ys h k = (h.0, all_both P xs ys h.1 k)
-
--- ---- steps from nothing lead to no number
-none_leads : {n : _} (r : Row_of-Step n) (l : Layout) → steps_layout None r ≡ Some l → ⊥
-unfolding steps_layout
-none_leads end_of-Step l h = cc
-none_leads (more_of-Step s rest) l h = none_leads rest l h
-
-nothing_leads : {n : _} (r : Row_of-Step n) (num : Num) → steps_layout (Some (fields no_field)) r ≡ Some (leaf num) → ⊥
-unfolding steps_layout nth_field
-nothing_leads end_of-Step num h = cc
-nothing_leads (more_of-Step (At' q m k (more_of-Expr a end_of-Expr)) rest) num h = none_leads rest (leaf num) h
-nothing_leads (more_of-Step (Field f) rest) num h = none_leads rest (leaf num) h
-
--- ---- where main may name every variable, and has no parameters
-module _ (p : Program) (all_named : (k : ℕ) (v : Var) → slice_get p.vars k ≡ Some v → is_named_by 0 v.home ≡ true) (no_params : params_of (slice_get p.funcs 0) ≡ []) where
-  leaf_named : (k : ℕ) (o : Option Var) → slice_get p.vars k ≡ o → {n : _} (r : Row_of-Step n) (num : Num) → steps_layout (Some (var_layout p.structs o)) r ≡ Some (leaf num) → IsNamed 0 o
-  leaf_named k None is r num h = absurd (nothing_leads r num h)
-  leaf_named k (Some v) is r num h = all_named k v is
-
-  number_named : (k : ℕ) {n : _} (r : Row_of-Step n) (num : Num) → steps_layout (Some (layout_of p k)) r ≡ Some (leaf num) → IsNamed 0 (slice_get p.vars k)
-  unfolding layout_of
-  number_named k r num h = leaf_named k (slice_get p.vars k) refl r num h
-
-  variable_named : (k : ℕ) (o : Option Var) → slice_get p.vars k ≡ o → IsVariable o → IsNamed 0 o
-  variable_named k None is h = absurd h
-  variable_named k (Some v) is h = all_named k v is
-
-  mutual
-    unfolding IsTypedExpr variables_in
-
-    names : (a : Expr) → IsTypedExpr p a → AreNamed p 0 (variables_in a)
-    names (Number n num) h = tt
-    names (Read' v n steps num) h = (number_named v steps num h.1, steps_named steps h.0)
-    names (Input k num) h = tt
-    names (Prefix' op q num n (more_of-Expr a end_of-Expr)) h = names a h.0
-    names (Cast' q num n (more_of-Expr a end_of-Expr)) h = names a h
-    names (Chain' n (more_of-Expr a end_of-Expr) m ls) h = all_both (λ v. IsNamed 0 (slice_get p.vars v)) (variables_in a) (variables_in_links ls) (names a h.0) (links_named (type_of a) ls h.1)
-    names (And' _ _ _ _) h = elim h [ ]
-    names (Or' _ _ _ _) h = elim h [ ]
-    names (Choice' _ _ _ _ _ _ _) h = elim h [ ]
-
-    links_named : {n : _} (left : Num) (r : Row_of-Link n) → AreTypedLinks p left r → AreNamed p 0 (variables_in_links r)
-    links_named left end_of-Link h = tt
-    links_named left (more_of-Link op q work b rest) h =
-        all_both (λ v. IsNamed 0 (slice_get p.vars v)) (variables_in b) (variables_in_links rest) (names b h.0) (links_named (result_type op work) rest h.1.1)
-
-    steps_named : {n : _} (r : Row_of-Step n) → AreTypedSteps p r → AreNamed p 0 (variables_in_steps r)
-    steps_named end_of-Step h = tt
-    steps_named (more_of-Step (At' q m k (more_of-Expr a end_of-Expr)) rest) h = all_both (λ v. IsNamed 0 (slice_get p.vars v)) (variables_in a) (variables_in_steps rest) (names a h.0) (steps_named rest h.1)
-    steps_named (more_of-Step (Field f) rest) h = steps_named rest h.1
-
-  expression : (a : Expr) → IsTypedExpr p a → IsPromoted a → IsExpression p 0 a
-  expression a h k = record { typed = typed_still p a h; promoted = k; named = names a h }
-
-  -- ---- places
-  leads_there : (l : Layout) (a : Expr) → IsRead p l a → LeadsThere p l a
-  leads_there l (Read' v n steps num) h = (steps_still p steps h.0, h.1)
-  leads_there l _ h = absurd h
-
-  place_named : (l : Layout) (a : Expr) → IsRead p l a → NamesVariable p a → AreNamed p 0 (variables_in a)
-  unfolding variables_in
-  place_named l (Read' v n steps num) h k = (k, steps_named steps h.0)
-  place_named l _ h k = absurd h
-
-  changes_named : (a : Expr) → ChangesVariable p a → NamesVariable p a
-  changes_named (Read' v n steps num) h = variable_named v (slice_get p.vars v) refl h
-  changes_named _ h = absurd h
-
-  place : (l : Layout) (x : Access) → IsTypedAccess p l x → NamesVariable p (e.Read x I32) → IsPromoted (e.Read x I32) → IsPlace p 0 l x
-  place l x h k m = record { typed = leads_there l (e.Read x I32) h; promoted = m; named = place_named l (e.Read x I32) h k }
-
-  left_side : (l : Layout) (x : Access) → IsTypedAccess p l x → ChangesVariable p (e.Read x I32) → IsPromoted (e.Read x I32) → IsLeftSide p 0 l x
-  left_side l x h k m = record { place = place l x h (changes_named (e.Read x I32) k) m; variable = k }
-
+module _ (p : Program) (no_params : params_of (slice_get p.funcs 0) ≡ []) where
+  -- ---- statements
   is_direct : (a : Expr) → is_through_reference p 0 a ≡ false
   unfolding is_reference
   is_direct (Read' v n steps num) = ap (is_reference v) no_params
   is_direct _ = refl
 
-  fixed_place : (l : Layout) (x : Access) → IsFixedAccess p l x → IsFixedPlace p 0 x
-  fixed_place l x h = record { fixed = h.fixed; direct = is_direct (e.Read x I32) }
+  fixed_place : (x : Access) → IsTrue (is_fixed_read (e.Read x I32)) → IsFixedPlace p 0 x
+  fixed_place x h = record { fixed = h; direct = is_direct (e.Read x I32) }
 
-  -- ---- statements
-  beginning : (k : ℕ) (x : Start) → IsTypedStart p k x → IsPromotedStart x → IsTypedBeginning p 0 k x
-  beginning k begins.Any h m = tt
-  beginning k (begins.Value q a) h m = (expression a h.0 m, h.1)
-  beginning k begins.Items h m = tt
-
-  simple : (x : Simple) → IsTypedSimple p x → IsFree p x → IsSimple p 0 x
+  simple : (x : Simple) → GoodSimple p x → IsSimple p 0 x
   unfolding is_parameter
-  simple (Declare k x) h f = (record { own = f.0; parameter = ap (is_parameter k) no_params }, beginning k x h f.1)
-  simple (Assign x num q a) h f = (left_side (leaf num) x h.0 f.0 f.1.0, expression a h.1 f.1.1)
-  simple (Compound x num op q work a) h f = (left_side (leaf num) x h.0 f.0 f.1.0, (expression a h.1.0 f.1.1, h.1.1))
-  simple (Copy k x q y) h f = (h.0, ((left_side h.0 x h.1.typed f.0.0 f.1.0, fixed_place h.0 x h.1), (place h.0 y h.2.typed f.0.1 f.1.1, fixed_place h.0 y h.2)))
+  simple (Declare k x) h = (record { own = h.0; parameter = ap (is_parameter k) no_params }, h.1)
+  simple (Assign x num q a) h = h
+  simple (Compound x num op q work a) h = h
+  simple (Copy k x q y) h = (h.0, ((h.1.0.0, fixed_place x h.1.0.1), (h.1.1.0, fixed_place y h.1.1.1)))
 
   mutual
-    unfolding IsTypedStmt IsFreeStmt IsStatement
+    unfolding GoodStmt IsStatement
 
-    statement : (s : Stmt) → IsTypedStmt p s → IsFreeStmt p s → IsStatement p 0 false s
-    statement (Stmt.Simple x) h f = simple x h f
-    statement (Stmt.Block' n all) h f = statements all h f
-    statement _ h f = absurd f
+    statement : (s : Stmt) → GoodStmt p s → IsStatement p 0 false s
+    statement (Stmt.Simple x) h = simple x h
+    statement (Stmt.Block' n all) h = statements all h
+    statement _ h = absurd h
 
-    statements : {n : _} (r : Row_of-Stmt n) → AreTypedStmts p r → AreFree p r → AreStatements p 0 false r
-    statements end_of-Stmt h f = tt
-    statements (more_of-Stmt s rest) h f = (statement s h.0 f.0, statements rest h.1 f.1)
+    statements : {n : _} (r : Row_of-Stmt n) → AreGood p r → AreStatements p 0 false r
+    statements end_of-Stmt h = tt
+    statements (more_of-Stmt s rest) h = (statement s h.0, statements rest h.1)
 
   -- they hold no call and no loop
   mutual
-    unfolding IsFreeStmt calls_in
+    unfolding GoodStmt calls_in
 
-    no_calls : (s : Stmt) → IsFreeStmt p s → calls_in s ≡ []
+    no_calls : (s : Stmt) → GoodStmt p s → calls_in s ≡ []
     no_calls (Stmt.Simple x) f = refl
     no_calls (Stmt.Block' n all) f = no_calls_in all f
     no_calls _ f = absurd f
 
-    no_calls_in : {n : _} (r : Row_of-Stmt n) → AreFree p r → calls_in_all r ≡ []
+    no_calls_in : {n : _} (r : Row_of-Stmt n) → AreGood p r → calls_in_all r ≡ []
     no_calls_in end_of-Stmt f = refl
     no_calls_in (more_of-Stmt s rest) f = let a = no_calls s f.0 in let b = no_calls_in rest f.1 in rw (a, b) refl
 
   mutual
-    unfolding IsFreeStmt loops_at
+    unfolding GoodStmt loops_at
 
-    no_loops : (s : Stmt) → IsFreeStmt p s → loops_at s ≡ []
+    no_loops : (s : Stmt) → GoodStmt p s → loops_at s ≡ []
     no_loops (Stmt.Simple x) f = refl
     no_loops (Stmt.Block' n all) f = no_loops_in all f
     no_loops _ f = absurd f
 
-    no_loops_in : {n : _} (r : Row_of-Stmt n) → AreFree p r → loops_at_all r ≡ []
+    no_loops_in : {n : _} (r : Row_of-Stmt n) → AreGood p r → loops_at_all r ≡ []
     no_loops_in end_of-Stmt f = refl
     no_loops_in (more_of-Stmt s rest) f = let a = no_loops s f.0 in let b = no_loops_in rest f.1 in rw (a, b) refl
 
@@ -210,10 +118,10 @@ module _ (p : Program) (all_named : (k : ℕ) (v : Var) → slice_get p.vars k �
   wait_last s rest is h =
       subst (λ (x : Stmt). IsTurnRow (more_of-Stmt x rest)) is (record { turn = inl (tt, h.empty); calls = h.calls; loops = h.loops })
 
-  one_more : (s : Stmt) {n : _} (rest : Row_of-Stmt n) → IsTypedStmt p s → IsFreeStmt p s → IsTurnRow rest → IsTurnRow (more_of-Stmt s rest)
+  one_more : (s : Stmt) {n : _} (rest : Row_of-Stmt n) → GoodStmt p s → IsTurnRow rest → IsTurnRow (more_of-Stmt s rest)
   unfolding IsTurn calls_in loops_at
-  one_more s rest h f k = record {
-    turn = inr (statement s h f, k.turn);
+  one_more s rest f k = record {
+    turn = inr (statement s f, k.turn);
     calls = (let a = no_calls s f in let b = k.calls in rw (a, b) refl);
     loops = (let a = no_loops s f in let b = k.loops in rw (a, b) refl);
   }
@@ -225,7 +133,7 @@ module _ (p : Program) (all_named : (k : ℕ) (v : Var) → slice_get p.vars k �
   turn_row n (more_of-Stmt s rest) (x ∷ ss) h k =
       let same : x ≡ s = cc in
       let tail : items-the_row-Stmt _ rest ≡ ss ++ t.Wait ∷ [] = cc in
-      one_more s rest (subst (IsTypedStmt p) same k.0.0) (subst (IsFreeStmt p) same k.0.1) (turn_row _ rest ss tail k.1)
+      one_more s rest (subst (GoodStmt p) same k.0) (turn_row _ rest ss tail k.1)
 
   abbrev row_of : Stmt → (n : _) × Row_of-Stmt n
   row_of (Stmt.Block' n r) = (_, r)
@@ -258,10 +166,10 @@ module _ (p : Program) (all_named : (k : ℕ) (v : Var) → slice_get p.vars k �
   }
   clock_last result q s (more_of-Stmt x rest) c h = absurd h.empty
 
-  main_more : (result : Option Num) (q : Pos) (s : Stmt) {n : _} (rest : Row_of-Stmt n) → IsTypedStmt p s → IsFreeStmt p s → IsMainRow result q rest → IsMainRow result q (more_of-Stmt s rest)
+  main_more : (result : Option Num) (q : Pos) (s : Stmt) {n : _} (rest : Row_of-Stmt n) → GoodStmt p s → IsMainRow result q rest → IsMainRow result q (more_of-Stmt s rest)
   unfolding IsMainBlock calls_in loops_at
-  main_more result q s rest h f k = record {
-    block = inr (statement s h f, k.block);
+  main_more result q s rest f k = record {
+    block = inr (statement s f, k.block);
     calls = (let a = no_calls s f in let b = k.calls in rw (a, b) refl);
     loops = (let a = no_loops s f in let b = k.loops in rw (a, b) refl);
   }
@@ -274,7 +182,7 @@ module _ (p : Program) (all_named : (k : ℕ) (v : Var) → slice_get p.vars k �
   main_row result q c d n (more_of-Stmt s rest) (x ∷ ss) h k =
       let same : x ≡ s = cc in
       let tail : items-the_row-Stmt _ rest ≡ ss ++ c ∷ [] = cc in
-      main_more result q s rest (subst (IsTypedStmt p) same k.0.0) (subst (IsFreeStmt p) same k.0.1) (main_row result q c d _ rest ss tail k.1)
+      main_more result q s rest (subst (GoodStmt p) same k.0) (main_row result q c d _ rest ss tail k.1)
 
   -- what is told of a block of main
   pub record IsWhole (result : Option Num) (s : Stmt) : Type 0 where
@@ -314,10 +222,10 @@ result_is (el.Scalar U32) h = cc
 result_is (el.Scalar I64) h = cc
 result_is (el.Scalar U64) h = cc
 
-module _ (s : Typer) (x : Entry) (kind : is_entry_type x.result ≡ true) (named : (k : ℕ) (v : Var) → slice_get s.vars k ≡ Some v → is_named_by 0 v.home ≡ true)
+module _ (s : Typer) (x : Entry) (kind : is_entry_type x.result ≡ true)
     (items : (k : ℕ) (v : Var) → slice_get s.vars k ≡ Some v → HasTypedItems (program s x) k v) (ends : EndsInClock (program s x) x.body.stmts) where
-  told : IsWhole (program s x) named refl (result_of x.result) (t.Block x.body.stmts)
-  told = whole (program s x) named refl (result_of x.result) x.body.stmts ends
+  told : IsWhole (program s x) refl (result_of x.result) (t.Block x.body.stmts)
+  told = whole (program s x) refl (result_of x.result) x.body.stmts ends
 
   main_function : IsFunction (program s x) 0 (function x)
   main_function = record {

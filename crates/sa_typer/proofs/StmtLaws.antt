@@ -16,7 +16,7 @@ use Rattle.sa_syntax.specs.declared.stmt.Stmt as stmts
 use Rattle.sa_syntax.specs.declared.stmt.Stmt.{Row_of-BlockItem, end_of-BlockItem, more_of-BlockItem}
 use Rattle.sa_typed.specs.Layouts.{Layout, leaf, rows, layout_with, shape_layout}
 use Rattle.sa_typed.specs.WellTyped.{type_of, IsLink}
-use Rattle.sa_typed.specs.TypedExpressions.{ChangesVariable}
+use Rattle.sa_typed.specs.TypedExpressions.{ChangesVariable, IsLeftSide}
 use Rattle.sa_typed.specs.declared.expr.Access.{Access}
 use Rattle.sa_typed.specs.declared.expr.Expr.{Expr}
 use Rattle.sa_typed.specs.declared.expr.Expr.TheVariants as made
@@ -45,9 +45,9 @@ use Rattle.sa_declarations.specs.Declarations.{local}
 use Rattle.sa_scopes.specs.Scopes.{Scope, oldest, count}
 use Rattle.sa_typer.specs.Statements.{mismatched, to_number, to_struct, to_form, assigned, compound_of, update_of, one, sort_by, compounded_number, compounded_by, compounded, left_side, simple, left_scope, scoped, directive, stmt, items, item}
 use Rattle.sa_scopes.specs.Typing.{Typed, Typing, Gives, and_then, pure, each}
-use Rattle.sa_operands.proofs.RowLaws.{GoodSimple, AllStmts, stmts_append, access_typed, access_promoted, access_named, access_changes, access_fixed, simple_typed, block_typed}
+use Rattle.sa_operands.proofs.RowLaws.{GoodSimple, AllStmts, stmts_append, access_typed, access_changes, access_fixed, simple_typed, block_typed}
 use Rattle.sa_scopes.proofs.WalkLaws.{Ends, Later, Well, Leads, Any, gives, refuses, refusal, bind, next, from, free, so, unless}
-use Rattle.sa_operands.proofs.OperandLaws.{IsGood, LeadsTo, GoodOperand, struct_in, one_good, works}
+use Rattle.sa_operands.proofs.OperandLaws.{IsGood, LeadsTo, GoodOperand, struct_in, one_good, works, all_three}
 use Rattle.sa_operands.proofs.PlaceLaws.{IsAt, GoodSpot, there, shaped}
 use Rattle.sa_operands.proofs.ExprLaws.{expr_leads, spot_leads}
 
@@ -61,12 +61,6 @@ taken (suc n) (suc i) (y ∷ xs) x h = taken n i xs x h
 not_false : (b : Bool) → not b ≡ false → b ≡ true
 not_false true h = refl
 not_false false h = cc
-
-all_three : (b c d : Bool) → (b && c && d) ≡ true → (b ≡ true) × ((c ≡ true) × (d ≡ true))
-all_three true true true h = (refl, (refl, refl))
-all_three true true false h = cc
-all_three true false d h = cc
-all_three false c d h = cc
 
 module _ (p : Program) where
   pub none_typed : AllStmts p []
@@ -82,15 +76,13 @@ module _ (p : Program) where
   left_access : (l : Spot) (r : Root) (shape : Shape) → IsAt p l r (Some shape) → l.locked ≡ false → IsLeft (shape_layout p.structs shape) l.fixed (access_of r l.steps)
   left_access l root.Nothing shape h f = absurd h
   left_access l (root.Variable k) shape h f = record {
-    leads = record {
-      typed = access_typed p k l.steps (shape_layout p.structs shape) h.typed h.leads;
-      named = access_named p k l.steps h.named;
-      promoted = access_promoted p k l.steps h.typed;
-      constant = λ c. access_fixed k l.steps (h.constant c);
-    };
+    leads = record { place = access_typed p k l.steps (shape_layout p.structs shape) h.typed h.leads h.named; constant = λ c. access_fixed k l.steps (h.constant c) };
     changes = access_changes p k l.steps (h.free f);
   }
   left_access l (root.Input k num) shape h f = let g = h.kept in cc
+
+  side : {layout : Layout} {fixed : Bool} {x : Access} → IsLeft layout fixed x → IsLeftSide p 0 layout x
+  side h = record { place = h.leads.place; variable = h.changes }
 
   is_there : (l : Spot) (r : Root) → IsAt p l r None → ⊥
   is_there l root.Nothing h = h
@@ -108,7 +100,7 @@ module _ (p : Program) where
 
   -- ---- assignments
   number_leads : (l : Spot) (num : Num) (q : Pos) (i : Operand) (s : Typer) → Leads p (IsLeft (leaf num) l.fixed (access l) × GoodOperand p i) s (λ y t. GoodSimple p y) (to_number (access l) num q i s)
-  number_leads l num q (a.Number e m v) s = gives (λ w h e. ((h.0.leads.typed, h.1.typed.0), (h.0.changes, (h.0.leads.promoted, h.1.typed.1))))
+  number_leads l num q (a.Number e m v) s = gives (λ w h e. (side h.0, h.1.typed))
   number_leads l num q (a.Struct y k fixed r) s = refuses 5 q
   number_leads l num q (a.Array r) s = refuses 5 q
   number_leads l num q a.Unknown s = gives (λ w h e. absurd h.1)
@@ -121,7 +113,7 @@ module _ (p : Program) where
   copied l k j fixed y q left right h =
       let all = all_three (k == j) l.fixed fixed h in
       let same = subst (λ (n : ℕ). LeadsTo p (struct_in p n) fixed y) (same_number k j all.0) right in
-      ((struct_in p k, record { typed = left.leads.typed; fixed = left.leads.constant all.1.0 }, record { typed = same.typed; fixed = same.constant all.1.1 }), ((left.changes, same.named), (left.leads.promoted, same.promoted)))
+      (struct_in p k, ((side left, left.leads.constant all.1.0), (same.place, same.constant all.1.1)))
 
   struct_leads : (l : Spot) (k : ℕ) (q : Pos) (i : Operand) (s : Typer) → Leads p (IsLeft (struct_in p k) l.fixed (access l) × GoodOperand p i) s (λ y t. GoodSimple p y) (to_struct (access l) l.fixed k q i s)
   struct_leads l k q (a.Number e m v) s = refuses 5 q
@@ -155,7 +147,7 @@ module _ (p : Program) where
   object_leads l o q a.Unknown s = refuses 5 q
 
   numbers_leads : (l : Spot) (to : Num) (o : Operator) (q : Pos) (i : Operand) (s : Typer) → Leads p (IsLeft (leaf to) l.fixed (access l) × GoodOperand p i) s (λ y t. GoodSimple p y) (compounded_by (access l) o q (sort.Number to) i s)
-  numbers_leads l to o q (a.Number e m v) s = gives (λ w h g. ((h.0.leads.typed, (h.1.typed.0, link_there o to m e h.1.is)), (h.0.changes, (h.0.leads.promoted, h.1.typed.1))))
+  numbers_leads l to o q (a.Number e m v) s = gives (λ w h g. (side h.0, (h.1.typed, link_there o to m e h.1.is)))
   numbers_leads l to o q (a.Struct y k fixed r) s = refuses 5 q
   numbers_leads l to o q (a.Array r) s = refuses 5 q
   numbers_leads l to o q a.Unknown s = gives (λ w h e. absurd h.1)

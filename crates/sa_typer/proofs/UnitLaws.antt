@@ -45,7 +45,9 @@ use Rattle.sa_scopes.specs.Refusals.{least_of}
 use Rattle.sa_scopes.specs.Typing.{Typed, Typing, Gives, and_then, pure, each, fault}
 use Rattle.sa_scopes.proofs.StructLaws.{RefersBelow, DefsBelow, IsFront, weight, cells_weight, AreSized, size_weight, sizes_known}
 use Rattle.sa_operands.proofs.RowLaws.{AllStmts}
-use Rattle.sa_typer.proofs.ProgramLaws.{EndsInClock, IsMainList, main_typed, program_typed}
+use Rattle.sa_typer.proofs.ProgramLaws.{EndsInClock, IsMainList, program_typed}
+use Rattle.sa_typer.proofs.StraightUnits.{StraightEntry, main_typed, items_straight}
+use Rattle.sa_unbuilt.specs.Unbuilt.{first_unbuilt, IsBuilt}
 use Rattle.sa_scopes.proofs.WalkLaws.{Ends, Later, no_fault, Well, IsSound, Leads, Any, state, value, gives, refuses, refusal, bind, next, from, free, either, one_of, unless, all_parts}
 use Rattle.sa_typer.proofs.RefusalLaws.{least_none, unrefused}
 use Rattle.sa_operands.proofs.TypeLaws.{GoodTy, qualifiers_leads}
@@ -194,7 +196,7 @@ both_right false b h = cc
 record Accepted (o : Option Entry) (s : Typer) (p : Program) : Type 0 where
   ends : Ends p s
   vars : p.vars ≡ s.vars
-  body : GoodEntry p o → IsTypedStmt p (main_of p)
+  body : GoodEntry p o → StraightEntry o → IsTypedStmt p (main_of p)
   program : GoodEntry p o → Well p s → IsTypedProgram p
   few : cells_in s.structs (map var_shape s.vars) ≤ 65536
 
@@ -205,8 +207,8 @@ own_program : (s : Typer) (e : Entry) → is_entry e ≡ true → s.faults ≡ [
 own_program s e m h k = record {
   ends = record { clear = h; structs = λ k x g. g; vars = λ k x g. g; inputs = λ k x g. g };
   vars = refl;
-  body = λ b. main_typed (program s e) e.body.stmts (main_list (program s e) e.body (both_left e.body.clock (is_entry_type e.result) m) b);
-  program = λ b w. program_typed s e (both_right e.body.clock (is_entry_type e.result) m) (λ k v g. (w.vars k v g).home) (λ k v g. (w.vars k v g).items)
+  body = λ b g. main_typed (program s e) e.body.stmts (main_list (program s e) e.body (both_left e.body.clock (is_entry_type e.result) m) b) g;
+  program = λ b w. program_typed s e (both_right e.body.clock (is_entry_type e.result) m) (λ k v g. (w.vars k v g).items)
       (main_list (program s e) e.body (both_left e.body.clock (is_entry_type e.result) m) b);
   few = k;
 }
@@ -252,10 +254,14 @@ module _ (u : Source) (end : Pos) (p : Program) (h : answer u end ≡ Accepts p)
   unfolding walk
   good = (source_leads p u.items blank).good (blank_well p) tt is.ends
 
-  -- a program that is accepted is typed
-  pub accepted_typed : IsTyped p
-  accepted_typed = record {
-    body = is.body good.1;
+  straight : IsBuilt u → StraightEntry (value walk)
+  unfolding walk first_unbuilt
+  straight b = (items_straight u.items blank b).straight
+
+  -- a program that is accepted is typed, and straight where today's analysis takes every form of the text
+  pub accepted_typed : IsBuilt u → IsTyped p
+  accepted_typed b = record {
+    body = is.body good.1 (straight b);
     items = λ k v g. (good.0.vars k v (ap (λ (vs : List Var). slice_get vs k) (sym is.vars) ∙ g)).items;
   }
 

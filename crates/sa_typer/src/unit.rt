@@ -307,13 +307,13 @@ fn answer(alloc: Global, unit: &Unit, end: Pos) -> Result<Program, TypeFault>
 
 /// The typed program of a tree whose text ends there. It is refused by the least refusal of the text: the one with the least
 /// place, and of those the one with the least rule; where nothing is refused, by the limit of cells. `specs/` has the rules
-/// with their sources in ISO C. Each form in the tree has to be one that is analysed, as `first_unbuilt` of `sa_unbuilt` tells.
+/// with their sources in ISO C. Where every form in the tree is one that is analysed, as `first_unbuilt` of `sa_unbuilt` tells,
+/// the program has no others (`straight`).
 #[tactic(auto, using(crate::proofs::AnswerLemmas::told_accepted, crate::proofs::AnswerLemmas::told_typed, crate::proofs::AnswerLemmas::told_program, crate::proofs::AnswerLemmas::told_small, crate::proofs::AnswerLemmas::told_refused))]
 pub fn type_unit(alloc: Global, unit: &Unit, end: Pos) -> Result<Program, TypeFault>
-    requires { IsBuilt unit.now }
     ensures accepted { IfOk result (λ p. spec.answer unit.now end ≡ Accepts p) }
     ensures typed { IfOk result IsTypedProgram }
-    ensures straight { IfOk result IsTyped }
+    ensures straight { IsBuilt unit.now → IfOk result IsTyped }
     ensures small { IfOk result (λ p. length (cells p) ≤ 65536) }
     ensures refused { IfErr result (IsFault unit.now end) }
 {
