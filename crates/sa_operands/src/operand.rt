@@ -655,11 +655,7 @@ fn choice_in(
     let condition = Boxed::new(alloc, condition.into_expr())?;
     let first = Boxed::new(alloc, first.into_expr())?;
     let second = Boxed::new(alloc, second.into_expr())?;
-    Ok(Operand::Number(
-        Expr::Choice(condition, first, second, num),
-        num,
-        value,
-    ))
+    Ok(Operand::Number(Expr::Choice(condition, first, second, num), num, value))
 }
 
 /// `?:` with the mark at that place.

@@ -178,7 +178,10 @@ impl Value {
     {
         match self {
             Value::Is(constant) => {
-                value_of(op.result_type(promoted(constant.num())), constant.prefixed(op))
+                value_of(
+                    op.result_type(promoted(constant.num())),
+                    constant.prefixed(op),
+                )
             }
             Value::Errs(num) => Value::Errs(op.result_type(promoted(num))),
             Value::Varies | Value::Unknown => self,
