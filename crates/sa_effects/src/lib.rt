@@ -1,0 +1,11 @@
+//! The effects of lowered expressions and assignments on environments.
+//!
+//! It stands on lowered programs (`sa_ir`), environments (`sa_env`) and the definitions of the reference analysis (`sa_flat`).
+//! The layers above use that an environment stands for one of the reference analysis (`state_of`), and that each operation on
+//! environments is the operation there (`environments_are_flat`). A change must keep that nothing here knows what stands in a
+//! slot.
+#![tactic(auto)]
+
+mod laws;
+
+pub use laws::environments_are_flat;
