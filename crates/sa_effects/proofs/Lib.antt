@@ -1,1 +1,3 @@
-mod Bridges
+pub mod Bridges
+pub mod Forms
+pub mod Tame

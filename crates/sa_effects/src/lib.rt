@@ -6,6 +6,9 @@
 //! slot.
 #![tactic(auto)]
 
+mod form;
 mod laws;
+mod value;
 
 pub use laws::environments_are_flat;
+pub use value::Value;
