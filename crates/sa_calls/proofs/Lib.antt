@@ -1,2 +1,5 @@
 pub mod WeightLemmas
 pub mod DepthLemmas
+pub mod GraphLemmas
+pub mod ReachLemmas
+pub mod VisitLemmas

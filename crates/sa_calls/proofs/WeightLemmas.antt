@@ -61,11 +61,11 @@ deepest-append bodies (s ∷ xs) ys = ap (λ (n : ℕ). max (1 + bodies s.func) 
 pub next : {A : Type 0} (xs : List A) (i : ℕ) (x : A) → i < length xs → x ≡ get_or xs i x → drop i xs ≡ x ∷ drop (i + 1) xs
 next xs i x h e = drop_more xs i x h ∙ ap (λ (y : _). y ∷ drop (i + 1) xs) (sym e)
 
-abbrev stmts_of : Stmt → (n : _) × Row_of-Stmt n
+abbrev pub stmts_of : Stmt → (n : _) × Row_of-Stmt n
 stmts_of (Stmt.Block' n ss) = (_, ss)
 stmts_of _ = (_, end_of-Stmt)
 
-abbrev groups_of : Stmt → (n : _) × Row_of-Group n
+abbrev pub groups_of : Stmt → (n : _) × Row_of-Group n
 groups_of (Stmt.Switch' e num n groups marked) = (_, groups)
 groups_of _ = (_, end_of-Group)
 

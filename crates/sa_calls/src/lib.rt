@@ -5,7 +5,10 @@
 //! time grows with the text alone.
 #![tactic(auto)]
 
+mod graph;
+mod recursion;
 mod weights;
 
+pub use graph::Call;
 pub use std::alloc::AllocError as OutOfMemory;
 pub use weights::{Weight, first_over};
