@@ -3,3 +3,4 @@ pub mod DepthLemmas
 pub mod GraphLemmas
 pub mod ReachLemmas
 pub mod VisitLemmas
+pub mod FirstLemmas

@@ -1,11 +1,11 @@
 -- What is met from a function, in the order in which it is met: each function that it leads to, and no other.
-use Rattle.std.proofs.Common.{◌≡◌, ℕ, zero, suc, ◌+◌, ◌-◌, ◌<◌, ◌≤◌, ◌⊎◌, inl, inr, Bool, true, false, List, [], ◌∷◌, ◌++◌, length, drop, get_or, refl, sym, ap, subst, ◌∙◌, arith, Option, Some, None}
-use Rattle.std.proofs.lemmas.List.{drop_more, drop_all, length-set, get_or-set_same, get_or-set_other, length-replicate}
+use Rattle.std.proofs.Common.{◌≡◌, ℕ, zero, suc, ◌<◌, ◌≤◌, ◌⊎◌, inl, inr, Bool, true, false, List, [], ◌∷◌, ◌++◌, length, get_or, refl, sym, ap, subst, ◌∙◌, arith, Some}
+use Rattle.std.proofs.lemmas.List.{length-set, get_or-set_same, get_or-set_other, length-replicate}
 use Rattle.std.proofs.lemmas.Bool.{cases_eq, cases_lt}
 use Rattle.std.proofs.lemmas.Bool.Decides.{nat_tests}
-use Rattle.std.specs.Prelude.{set, slice_get, replicate, nat_lt, not, ◌&&◌, if◌then◌else◌}
+use Rattle.std.specs.Prelude.{set, slice_get, replicate, nat_lt}
 use Rattle.sa_calls.specs.declared.graph.Call.{Call}
-use Rattle.sa_calls.specs.Recursion.{Leads, calls_at, is_new, marks_after, order_after, marks_all, order_all}
+use Rattle.sa_calls.specs.Recursion.{Leads, calls_at, marks_after, order_after, marks_all, order_all}
 
 -- ---- how many are marked
 unfoldable pub marked : List Bool → ℕ
@@ -62,7 +62,7 @@ none_marked zero k h = cc
 none_marked (suc n) zero h = cc
 none_marked (suc n) (suc k) h = none_marked n k h
 
-calls-below : (graph : List (List Call)) (g i : ℕ) (c : Call) → slice_get (calls_at graph g) i ≡ Some c → g < length graph
+pub calls-below : (graph : List (List Call)) (g i : ℕ) (c : Call) → slice_get (calls_at graph g) i ≡ Some c → g < length graph
 unfolding calls_at
 calls-below [] g i c h = cc
 calls-below (x ∷ xs) zero i c h = omega arith
@@ -89,7 +89,7 @@ module _ (graph : List (List Call)) (start : ℕ) (marks : List Bool) (order : L
   kept-marks k e h = elim (cases_eq k f) [
     | inl same ↦ subst (λ (k : ℕ). get_or (set marks f true) k false ≡ true) (sym same) (get_or-set_same marks f true false e)
     | inr other ↦ get_or-set_other marks f k true false other ∙ h
-    ]
+  ]
 
   met-new : Leads graph f start → f < length marks → get_or marks f false ≡ false → IsNext graph start marks (set marks f true) order (order ++ f ∷ []) done f
   met-new leads e free = record {
@@ -101,15 +101,15 @@ module _ (graph : List (List Call)) (start : ℕ) (marks : List Bool) (order : L
       listed = λ k h. elim (cases_eq k f) [
         | inl same ↦ (length order, subst (λ (k : ℕ). slice_get (order ++ f ∷ []) (length order) ≡ Some k) (sym same) (here_new order f))
         | inr other ↦ (let i = front.listed k (sym (get_or-set_other marks f k true false other) ∙ h) in (i.0, here_old order (f ∷ []) i.0 k i.1))
-        ];
+      ];
       closed = λ i g j c l h is few. elim (old_or_new order f g i h) [
         | inl old ↦ kept-marks c.func e (front.closed i g j c l old is few)
         | inr new ↦ (let x = front.early in let y = new.0 in absurd (omega (arith, l, x, y)))
-        ]
+      ];
     };
     here = λ l. get_or-set_same marks f true false e;
     stays = λ i k h. here_old order (f ∷ []) i k h;
-    kept = λ k h. kept-marks k e h
+    kept = λ k h. kept-marks k e h;
   }
 
   met-old : (f < length graph → get_or marks f false ≡ true) → IsNext graph start marks marks order order done f
@@ -146,7 +146,7 @@ met-all graph start done (c ∷ calls) marks order front leads =
       front = rest.front;
       here = λ j x h l. each graph start calls (marks_after c.func marks) (marks_all calls (marks_after c.func marks)) c rest.here (λ m. rest.kept c.func (one.here m)) j x h l;
       stays = λ i k h. rest.stays i k (one.stays i k h);
-      kept = λ k h. rest.kept k (one.kept k h)
+      kept = λ k h. rest.kept k (one.kept k h);
     }
   where
     each : (graph : List (List Call)) (start : ℕ) (calls : List Call) (marks new : List Bool) (c : Call) → ((j : ℕ) (x : Call) → slice_get calls j ≡ Some x → x.func < length graph → get_or new x.func false ≡ true) →
@@ -177,11 +177,11 @@ module _ (graph : List (List Call)) (start : ℕ) (marks : List Bool) (order : L
         closed = λ i g j c l h s few. elim (cases_lt i done) [
           | inl less ↦ a.front.closed i g j c less h s few
           | inr last ↦ (
-            let i_is : i ≡ done = omega (arith, e, l, last) in
-            let same : Some g ≡ Some f = sym h ∙ ap (slice_get new) i_is ∙ a.stays done f is in
-            let g_is : g ≡ f = cc in
-            a.here j c (subst (λ (g : ℕ). slice_get (calls_at graph g) j ≡ Some c) g_is s) few)
-          ]
+              let i_is : i ≡ done = omega (arith, e, l, last) in
+              let same : Some g ≡ Some f = sym h ∙ ap (slice_get new) i_is ∙ a.stays done f is in
+              let g_is : g ≡ f = cc in
+              a.here j c (subst (λ (g : ℕ). slice_get (calls_at graph g) j ≡ Some c) g_is s) few)
+        ];
       }
 
   pub still : (k : ℕ) → get_or marks k false ≡ true → get_or (marks_all (calls_at graph f) marks) k false ≡ true
@@ -196,7 +196,7 @@ module _ (graph : List (List Call)) (start : ℕ) where
     early = omega arith;
     sound = λ i k h. cc;
     listed = λ k h. absurd (none_marked (length graph) k h);
-    closed = λ i f j c l h is few. absurd (omega (arith, l))
+    closed = λ i f j c l h is few. absurd (omega (arith, l));
   }
 
   pub begins : IsNext graph start (replicate (length graph) false) (marks_after start (replicate (length graph) false)) [] (order_after start (replicate (length graph) false) []) 0 start
@@ -246,6 +246,7 @@ turn-at graph start marks new order more done n f d cs front l is calls e a b =
     let at = got-at order done d f l is in
     let met_marks : new ≡ marks_all (calls_at graph f) marks = a ∙ ap (λ (cs : List Call). marks_all cs marks) calls in
     let met_order : more ≡ order_all (calls_at graph f) marks order = b ∙ ap (λ (cs : List Call). order_all cs marks order) calls in
-    subst (λ (ms : List Bool). IsFront graph start ms more n × (start < length graph → get_or ms start false ≡ true)) (sym met_marks)
-    (subst (λ (os : List ℕ). IsFront graph start (marks_all (calls_at graph f) marks) os n) (sym met_order) (turn graph start marks order done f front.0 at n e),
-     λ few. still graph start marks order done f front.0 at start (front.1 few))
+    subst (λ (ms : List Bool). IsFront graph start ms more n × (start < length graph → get_or ms start false ≡ true)) (sym met_marks) (
+      subst (λ (os : List ℕ). IsFront graph start (marks_all (calls_at graph f) marks) os n) (sym met_order) (turn graph start marks order done f front.0 at n e),
+      λ few. still graph start marks order done f front.0 at start (front.1 few),
+    )

@@ -1,6 +1,6 @@
 -- Which calls lead back to the function that they stand in, by however many others (this project's own choice; C lets functions
 -- call themselves, ISO C 6.5.2.2p11).
-use Rattle.std.specs.Prelude.{ℕ, ◌≡◌, ◌<◌, ◌⊎◌, ◌==◌, ◌&&◌, ◌||◌, not, nat_lt, Bool, true, false, List, [], ◌∷◌, ◌++◌, length, map, set, get_or, slice_get, if◌then◌else◌, Option, Some, None}
+use Rattle.std.specs.Prelude.{ℕ, ◌≡◌, ◌<◌, ◌⊎◌, ◌==◌, ◌&&◌, ◌||◌, not, nat_lt, Bool, true, false, List, [], ◌∷◌, ◌++◌, length, set, get_or, slice_get, if◌then◌else◌, Option, Some, None}
 use Rattle.sa_base.specs.declared.pos.Pos.{Pos}
 use Rattle.sa_typed.specs.TypedPrograms.{Site, calls_in}
 use Rattle.sa_typed.specs.declared.program.Func.{Func}
@@ -50,27 +50,19 @@ abbrev pub IsFirstBack : List (List Call) → Option Pos → Type 0
 IsFirstBack graph None = (f : ℕ) (c : Call) → IsBack graph f c → ⊥
 IsFirstBack graph (Some q) = ((f : ℕ) × (c : Call) × IsBack graph f c × (c.pos ≡ q)) × ((f : ℕ) (c : Call) → IsBack graph f c → is_before c.pos q ≡ false)
 
--- of those calls that were looked at, told by the number of the function and the call's in it
-unfoldable pub NoneAmong : List (List Call) → (ℕ → ℕ → Type 0) → Type 0
-NoneAmong graph P = (f i : ℕ) (c : Call) → P f i → slice_get (calls_at graph f) i ≡ Some c → Leads graph f c.func → ⊥
+abbrev pub is_earlier : Pos → Option Pos → Bool
+is_earlier p None = true
+is_earlier p (Some q) = is_before p q
 
-unfoldable pub NoneBefore : List (List Call) → (ℕ → ℕ → Type 0) → Pos → Type 0
-NoneBefore graph P q = (f i : ℕ) (c : Call) → P f i → slice_get (calls_at graph f) i ≡ Some c → Leads graph f c.func → is_before c.pos q ≡ false
-
-unfoldable pub SomeAt : List (List Call) → Pos → Type 0
-SomeAt graph q = (f : ℕ) × (c : Call) × IsBack graph f c × (c.pos ≡ q)
-
-abbrev pub IsFirstAmong : List (List Call) → (ℕ → ℕ → Type 0) → Option Pos → Type 0
-IsFirstAmong graph P None = NoneAmong graph P
-IsFirstAmong graph P (Some q) = SomeAt graph q × NoneBefore graph P q
+-- it is the place of a call that leads back, and no call does that was looked at (told by its function and its number in it) and
+-- stands before
+pub record IsFirstAmong (graph : List (List Call)) (P : ℕ → ℕ → Type 0) (best : Option Pos) : Type 0 where
+  pub stands : (q : Pos) → best ≡ Some q → (f : ℕ) × (c : Call) × IsBack graph f c × (c.pos ≡ q)
+  pub least : (f i : ℕ) (c : Call) → P f i → slice_get (calls_at graph f) i ≡ Some c → Leads graph f c.func → is_earlier c.pos best ≡ false
 
 -- the calls of the first functions, and of the next one the first calls
 abbrev pub IsSeen : ℕ → ℕ → ℕ → ℕ → Type 0
 IsSeen n m f i = (f < n) ⊎ ((f ≡ n) × (i < m))
-
-abbrev pub is_earlier : Pos → Option Pos → Bool
-is_earlier p None = true
-is_earlier p (Some q) = is_before p q
 
 -- ---- functions that were met, marked and in their order
 abbrev pub is_new : List Bool → ℕ → Bool

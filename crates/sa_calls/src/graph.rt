@@ -93,10 +93,10 @@ pub(crate) fn graph(alloc: Global, funcs: &[Func]) -> Result<Items<Items<Call>>,
 
 /// The calls of the function with this number.
 #[tactic(auto, using(crate::proofs::GraphLemmas::of_calls))]
-pub(crate) fn calls_at(graph: &[Items<Call>], f: u32) -> &[Call]
+pub(crate) fn calls_at(graph: &[Items<Call>], f: usize) -> &[Call]
     ensures { result.now ≡ calls_at graph.now f }
 {
-    match at(graph, f as usize) {
+    match at(graph, f) {
         None => &[],
         Some(calls) => calls.as_slice(),
     }

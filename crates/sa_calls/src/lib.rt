@@ -10,5 +10,6 @@ mod recursion;
 mod weights;
 
 pub use graph::Call;
+pub use recursion::first_back;
 pub use std::alloc::AllocError as OutOfMemory;
 pub use weights::{Weight, first_over};
