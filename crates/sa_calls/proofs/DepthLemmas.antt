@@ -1,20 +1,17 @@
 -- Weights by rounds: a round more tells bodies one deeper, and as many rounds as calls may stand on a path are enough.
-use Rattle.std.proofs.Common.{◌≡◌, ℕ, zero, suc, ◌+◌, ◌-◌, ◌^◌, ◌<◌, ◌≤◌, ◌⊎◌, inl, inr, Bool, true, false, List, [], ◌∷◌, ◌++◌, length, drop, get_or, refl, sym, ap, ◌∙◌, arith, append_assoc, append-nil, Option, Some, None}
+use Rattle.std.proofs.Common.{◌≡◌, ℕ, zero, suc, ◌+◌, ◌-◌, ◌^◌, ◌<◌, ◌≤◌, inl, inr, Bool, true, List, [], ◌∷◌, ◌++◌, length, drop, get_or, refl, sym, ap, ◌∙◌, arith, append_assoc, append-nil, Some, None}
 use Rattle.std.proofs.lemmas.List.{drop_all}
 use Rattle.std.proofs.lemmas.Bool.{cases_lt}
 use Rattle.std.proofs.lemmas.Bool.Decides.{nat_tests}
 use Rattle.std.specs.List.{AllByRecursion}
 use Rattle.std.specs.Prelude.{max, min, slice_get, nat_lt, if◌then◌else◌}
-use Rattle.sa_base.specs.declared.limit.Limit.{Limit}
 use Rattle.sa_base.specs.declared.limit.Limit.TheVariants.{Calls, Statements}
 use Rattle.sa_typed.specs.Executions.{block_of}
 use Rattle.sa_typed.specs.Frames.{statements_in, all_statements_in, group_statements_in, one_step, body_statements, program_statements}
 use Rattle.sa_typed.specs.TypedPrograms.{Site, calls_in, calls_in_all, calls_in_groups}
 use Rattle.sa_typed.specs.declared.program.Func.{Func}
 use Rattle.sa_typed.specs.declared.program.Program.{Program}
-use Rattle.sa_typed.specs.declared.stmt.Simple.{Simple}
 use Rattle.sa_typed.specs.declared.stmt.Stmt.{Stmt, Row_of-Stmt, end_of-Stmt, more_of-Stmt, Row_of-Group, end_of-Group, more_of-Group}
-use Rattle.sa_typed.specs.declared.stmt.Stmt.TheVariants as stmt
 use Rattle.sa_calls.specs.declared.weights.Weight.{Weight}
 use Rattle.sa_calls.specs.Depths.{deepest, body_calls, program_calls}
 use Rattle.sa_calls.specs.Weights.{capped, weight, nothing, weight_at, calls_by, statements_by, weight_in, weight_after, deeper, AreWeights, over_limit, first_over}

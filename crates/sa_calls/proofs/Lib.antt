@@ -1,2 +1,6 @@
 pub mod WeightLemmas
 pub mod DepthLemmas
+pub mod GraphLemmas
+pub mod ReachLemmas
+pub mod VisitLemmas
+pub mod FirstLemmas

@@ -1,10 +1,10 @@
 -- The equation of each form of a statement, as code sees it, and sums of weights in numbers of a machine word.
-use Rattle.std.proofs.Common.{◌≡◌, ℕ, zero, suc, ◌+◌, ◌-◌, ◌^◌, ◌<◌, ◌≤◌, Bool, List, [], ◌∷◌, ◌++◌, length, drop, get_or, refl, sym, ap, ◌∙◌, arith, Option, Some, None}
+use Rattle.std.proofs.Common.{◌≡◌, ℕ, ◌+◌, ◌<◌, ◌≤◌, Bool, List, [], ◌∷◌, ◌++◌, length, drop, get_or, refl, sym, ap, ◌∙◌, arith, Option, Some, None}
 use Rattle.std.proofs.lemmas.List.{drop_more, drop_all}
-use Rattle.std.specs.Prelude.{max, min, slice_get}
+use Rattle.std.specs.Prelude.{max}
 use Rattle.sa_base.specs.declared.num.Num.{Num}
 use Rattle.sa_base.specs.declared.pos.Pos.{Pos}
-use Rattle.sa_typed.specs.Frames.{statements_in, all_statements_in, group_statements_in, one_step}
+use Rattle.sa_typed.specs.Frames.{statements_in, all_statements_in, group_statements_in}
 use Rattle.sa_typed.specs.TypedPrograms.{Site, calls_in, calls_in_all, calls_in_groups}
 use Rattle.sa_typed.specs.declared.expr.Expr.{Expr}
 use Rattle.sa_typed.specs.declared.stmt.Arg.{Arg}
@@ -61,11 +61,11 @@ deepest-append bodies (s ∷ xs) ys = ap (λ (n : ℕ). max (1 + bodies s.func) 
 pub next : {A : Type 0} (xs : List A) (i : ℕ) (x : A) → i < length xs → x ≡ get_or xs i x → drop i xs ≡ x ∷ drop (i + 1) xs
 next xs i x h e = drop_more xs i x h ∙ ap (λ (y : _). y ∷ drop (i + 1) xs) (sym e)
 
-abbrev stmts_of : Stmt → (n : _) × Row_of-Stmt n
+abbrev pub stmts_of : Stmt → (n : _) × Row_of-Stmt n
 stmts_of (Stmt.Block' n ss) = (_, ss)
 stmts_of _ = (_, end_of-Stmt)
 
-abbrev groups_of : Stmt → (n : _) × Row_of-Group n
+abbrev pub groups_of : Stmt → (n : _) × Row_of-Group n
 groups_of (Stmt.Switch' e num n groups marked) = (_, groups)
 groups_of _ = (_, end_of-Group)
 

@@ -1,2 +1,3 @@
 pub mod Depths
 pub mod Weights
+pub mod Recursion

@@ -1,9 +1,8 @@
 -- What is counted of a statement and of a body, once the bodies that it calls are counted.
-use Rattle.std.specs.Prelude.{ℕ, zero, suc, ◌+◌, ◌-◌, ◌^◌, ◌≡◌, ◌<◌, max, min, List, [], ◌∷◌, get_or, length, slice_get, Option, Some, None, nat_lt, if◌then◌else◌}
+use Rattle.std.specs.Prelude.{ℕ, ◌+◌, ◌-◌, ◌^◌, ◌≡◌, max, min, List, [], ◌∷◌, get_or, Option, Some, None, nat_lt, if◌then◌else◌}
 use Rattle.sa_base.specs.Numbers.{limit_number}
 use Rattle.sa_base.specs.declared.limit.Limit.{Limit}
 use Rattle.sa_base.specs.declared.limit.Limit.TheVariants.{Calls, Statements}
-use Rattle.sa_typed.specs.Executions.{block_of}
 use Rattle.sa_typed.specs.Frames.{statements_in, body_statements, program_statements}
 use Rattle.sa_typed.specs.TypedPrograms.{calls_in}
 use Rattle.sa_typed.specs.declared.program.Func.{Func}

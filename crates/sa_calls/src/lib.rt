@@ -5,7 +5,11 @@
 //! time grows with the text alone.
 #![tactic(auto)]
 
+mod graph;
+mod recursion;
 mod weights;
 
+pub use graph::Call;
+pub use recursion::first_back;
 pub use std::alloc::AllocError as OutOfMemory;
 pub use weights::{Weight, first_over};
