@@ -20,7 +20,7 @@ use sa_typed::{Arg, Expr, Home, Link, Program, Step};
 use std::alloc::{AllocError, Global};
 
 /// A cell that no report names.
-pub(crate) fn push_hidden(alloc: Global, num: Num, cells: &mut Vec<Cell>) -> Result<(), OutOfMemory>
+pub fn push_hidden(alloc: Global, num: Num, cells: &mut Vec<Cell>) -> Result<(), OutOfMemory>
     ensures { OnOk result (cells.new.items ≡ cells.old.items ++ hidden num ∷ []) }
 {
     let name = Text::of_bytes(alloc, &[])?;
@@ -48,7 +48,7 @@ fn links_after(first: Num, links: &[Link]) -> Num
 
 /// The type of an expression.
 #[tactic(auto, using(crate::proofs::TypeLemmas::of_types))]
-pub(crate) fn type_of(e: &Expr) -> Num
+pub fn type_of(e: &Expr) -> Num
     ensures { result ≡ type_of e.now }
 {
     match e {
@@ -139,7 +139,7 @@ fn push_object(
 }
 
 /// The cells of the variables that live there.
-pub(crate) fn push_home(
+pub fn push_home(
     alloc: Global,
     program: &Program,
     table: &Table,
@@ -208,7 +208,7 @@ fn push_result(alloc: Global, num: Option<Num>, cells: &mut Vec<Cell>) -> Result
 }
 
 /// The type of a function's result.
-pub(crate) fn result_of(program: &Program, f: u32) -> Option<Num>
+pub fn result_of(program: &Program, f: u32) -> Option<Num>
     ensures { result ≡ result_of (slice_get program.now.funcs f) }
 {
     match program.funcs.get(f as usize) {
@@ -218,7 +218,7 @@ pub(crate) fn result_of(program: &Program, f: u32) -> Option<Num>
 }
 
 /// The cells of a call of the function with this number, to which the path with this text leads.
-pub(crate) fn push_call(
+pub fn push_call(
     alloc: Global,
     program: &Program,
     table: &Table,

@@ -19,31 +19,31 @@ pub struct Target {
 
 /// The cells of a variable: the first one, and how many there are.
 #[derive(Clone, Copy, Debug, PartialEq, Eq)]
-pub(crate) struct Span {
-    pub(crate) first: u32,
-    pub(crate) cells: usize,
+pub struct Span {
+    pub first: u32,
+    pub cells: u32,
 }
 
 /// A parameter that stands for another object in a call.
 #[derive(Debug, Drop)]
-pub(crate) struct Reference {
-    pub(crate) var: u32,
-    pub(crate) target: Target,
+pub struct Reference {
+    pub var: u32,
+    pub target: Target,
 }
 
 /// One call while its function is lowered: the text of the path that leads to it, the number of its first cell, the cell of its
 /// result, and what its references stand for.
 #[derive(Debug, Drop)]
-pub(crate) struct Frame {
-    pub(crate) prefix: Vec<u8>,
-    pub(crate) first: usize,
-    pub(crate) result: u32,
-    pub(crate) references: Vec<Reference>,
+pub struct Frame {
+    pub prefix: Vec<u8>,
+    pub first: usize,
+    pub result: u32,
+    pub references: Vec<Reference>,
 }
 
 /// What a variable stands for: the number of its first cell, and the indices that were kept.
 #[derive(Clone, Copy)]
-pub(crate) struct Base<'a> {
-    pub(crate) first: u32,
-    pub(crate) rows: &'a [Kept],
+pub struct Base<'a> {
+    pub first: u32,
+    pub rows: &'a [Kept],
 }

@@ -18,8 +18,14 @@ mod sizes;
 mod slots;
 mod table;
 
+pub use cells::{push_call, push_home, result_of};
 pub use expr::{IrExpr, IrLink, IrPlace, Row};
-pub use frame::{Kept, Target};
+pub use frame::{Frame, Kept, Reference, Span, Target};
 pub use ir::{Cell, Ends, Ir, LoopInfo};
+pub use lowering::{kept_rows, lower_expr, lower_place};
+pub use names::push_pos;
 pub use node::{IrAssign, IrGroup, Node};
+pub use places::{Cursor, Stepped, base, field, inner, own_first, stride, whole};
+pub use simple::{lower_simple, num_of, object_ends, whole_cells};
 pub use std::alloc::AllocError as OutOfMemory;
+pub use table::{Section, Sections, Table, number};

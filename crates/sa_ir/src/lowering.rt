@@ -37,7 +37,7 @@ fn folded(n: u32, index: &Expr) -> Option<u32>
 #[cycle(lowering)]
 #[tactic(auto, using(crate::proofs::LowerLaws::of_lowered))]
 /// An expression in a call.
-pub(crate) fn lower_expr(
+pub fn lower_expr(
     alloc: Global,
     program: &Program,
     table: &Table,
@@ -224,7 +224,7 @@ fn lower_step<'a>(
 
 #[cycle(lowering)]
 /// The place of an access in a call.
-pub(crate) fn lower_place(
+pub fn lower_place(
     alloc: Global,
     program: &Program,
     table: &Table,
@@ -249,7 +249,7 @@ pub(crate) fn lower_place(
 }
 
 /// The rows of indices that were kept.
-pub(crate) fn kept_rows(alloc: Global, kept: &[Kept]) -> Result<Items<Row>, OutOfMemory>
+pub fn kept_rows(alloc: Global, kept: &[Kept]) -> Result<Items<Row>, OutOfMemory>
     ensures { IfOk result (λ r. r ≡ map kept_row kept.now) }
 {
     let mut rows = Items::new(alloc);

@@ -16,12 +16,12 @@ use std::alloc::Global;
 /// A cell within an object: the dimensions that are left of the object's shape, what they are around, which may hold the first
 /// `structs` structures, how many cells it has, and the number of the cell among them.
 #[derive(Clone, Copy)]
-pub(crate) struct Inside<'a> {
-    pub(crate) dims: &'a [u32],
-    pub(crate) plain: Plain,
-    pub(crate) structs: usize,
-    pub(crate) cells: usize,
-    pub(crate) number: usize,
+pub struct Inside<'a> {
+    pub dims: &'a [u32],
+    pub plain: Plain,
+    pub structs: usize,
+    pub cells: usize,
+    pub number: usize,
 }
 
 /// `[3]`
@@ -149,7 +149,7 @@ fn push_step<'a>(
 }
 
 /// The steps to a cell.
-pub(crate) fn push_steps<'a>(
+pub fn push_steps<'a>(
     alloc: Global,
     text: &mut Vec<u8>,
     program: &'a Program,
@@ -168,7 +168,7 @@ pub(crate) fn push_steps<'a>(
 }
 
 /// `3:5`
-pub(crate) fn push_pos(alloc: Global, text: &mut Vec<u8>, pos: Pos) -> Result<(), OutOfMemory>
+pub fn push_pos(alloc: Global, text: &mut Vec<u8>, pos: Pos) -> Result<(), OutOfMemory>
     ensures { OnOk result (text.new.items ≡ text.old.items ++ pos_text pos) }
 {
     let line = pos.line;
@@ -202,7 +202,7 @@ fn push_path(text: &mut Vec<u8>, prefix: &[u8], home: Home) -> Result<(), OutOfM
 
 /// The name of a variable in a call to which the path with this text leads.
 #[tactic(auto, unfolding(crate::specs::Names::var_text))]
-pub(crate) fn push_var(
+pub fn push_var(
     alloc: Global,
     text: &mut Vec<u8>,
     prefix: &[u8],

@@ -21,10 +21,10 @@ use sqlite_items::at;
 /// What an access has led to: the dimensions that are left, and what they are around, which may hold the first `structs`
 /// structures.
 #[derive(Clone, Copy)]
-pub(crate) struct Cursor<'a> {
-    pub(crate) dims: &'a [u32],
-    pub(crate) plain: Plain,
-    pub(crate) structs: usize,
+pub struct Cursor<'a> {
+    pub dims: &'a [u32],
+    pub plain: Plain,
+    pub structs: usize,
 }
 
 // ---- variables
@@ -42,7 +42,7 @@ fn cells_ahead(table: &Table, program: &Program, first: usize, home: Home) -> us
 }
 
 /// The first cell of a variable in a call whose cells begin there.
-pub(crate) fn own_first(
+pub fn own_first(
     program: &Program,
     table: &Table,
     first: usize,
@@ -85,7 +85,7 @@ fn referred(references: &[Reference], var: u32) -> Option<&Target>
 }
 
 /// What a variable stands for in a call.
-pub(crate) fn base<'a>(
+pub fn base<'a>(
     program: &Program,
     table: &Table,
     frame: &'a Frame,
@@ -107,7 +107,7 @@ pub(crate) fn base<'a>(
 }
 
 /// What a variable is made of.
-pub(crate) fn whole<'a>(program: &'a Program, var: u32) -> Cursor<'a>
+pub fn whole<'a>(program: &'a Program, var: u32) -> Cursor<'a>
     ensures { IsCursor program.now (layout_of program.now var) result }
 {
     match at(program.vars.as_slice(), var as usize) {
@@ -136,7 +136,7 @@ fn nothing<'a>() -> Cursor<'a>
 // ---- steps
 
 /// How many cells further an index leads with each step.
-pub(crate) fn stride(program: &Program, table: &Table, at: Cursor<'_>) -> usize
+pub fn stride(program: &Program, table: &Table, at: Cursor<'_>) -> usize
     requires table { IsTable program.now table.now }
     requires at { at.structs ≤ length program.now.structs }
     ensures { result ≡ capped (stride_of (cursor_layout program.now at.entry)) }
@@ -161,7 +161,7 @@ pub(crate) fn stride(program: &Program, table: &Table, at: Cursor<'_>) -> usize
 }
 
 /// An element of an array; of what is none itself.
-pub(crate) fn inner<'a>(program: &Program, at: Cursor<'a>) -> Cursor<'a>
+pub fn inner<'a>(program: &Program, at: Cursor<'a>) -> Cursor<'a>
     requires { at.structs ≤ length program.now.structs }
     ensures { IsCursor program.now (inner (cursor_layout program.now at.entry)) result }
 {
@@ -177,9 +177,9 @@ pub(crate) fn inner<'a>(program: &Program, at: Cursor<'a>) -> Cursor<'a>
 
 /// A step to a field: how many cells stand before it, and what it leads to.
 #[derive(Clone, Copy)]
-pub(crate) struct Stepped<'a> {
-    pub(crate) cells: usize,
-    pub(crate) cursor: Cursor<'a>,
+pub struct Stepped<'a> {
+    pub cells: usize,
+    pub cursor: Cursor<'a>,
 }
 
 /// How many cells stand before a field, given what stands before each of them and in all.
@@ -221,7 +221,7 @@ fn struct_field<'a>(program: &'a Program, table: &Table, k: u32, f: u32) -> Step
 }
 
 /// A field of what an access has led to; of what is no structure itself.
-pub(crate) fn field<'a>(program: &'a Program, table: &Table, at: Cursor<'a>, f: u32) -> Stepped<'a>
+pub fn field<'a>(program: &'a Program, table: &Table, at: Cursor<'a>, f: u32) -> Stepped<'a>
     requires table { IsTable program.now table.now }
     requires at { at.structs ≤ length program.now.structs }
     ensures { IsStepped program.now (cursor_layout program.now at.entry) f result }

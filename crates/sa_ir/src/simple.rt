@@ -27,7 +27,7 @@ use sqlite_items::{Items, at};
 use std::alloc::Global;
 
 /// How many cells a variable has.
-pub(crate) fn whole_cells(program: &Program, table: &Table, var: u32) -> usize
+pub fn whole_cells(program: &Program, table: &Table, var: u32) -> usize
     requires { IsTable program.now table.now }
     ensures { result ≡ capped (size (layout_of program.now var)) }
 {
@@ -54,7 +54,7 @@ fn struct_cells(program: &Program, table: &Table, k: u32) -> usize
 }
 
 /// The type of a scalar variable.
-pub(crate) fn num_of(program: &Program, var: u32) -> Num
+pub fn num_of(program: &Program, var: u32) -> Num
     ensures { result ≡ num_in (layout_of program.now var) }
 {
     match at(program.vars.as_slice(), var as usize) {
@@ -90,7 +90,7 @@ fn all_ends(alloc: Global, slots: &[Slot]) -> Result<Items<Ends>, OutOfMemory>
 }
 
 /// What the cells of a variable begin with.
-pub(crate) fn object_ends(
+pub fn object_ends(
     alloc: Global,
     program: &Program,
     table: &Table,
@@ -151,7 +151,7 @@ fn lower_start(
 
 /// A simple statement in a call.
 #[tactic(auto, unfolding(crate::specs::Nodes::simple))]
-pub(crate) fn lower_simple(
+pub fn lower_simple(
     alloc: Global,
     program: &Program,
     table: &Table,

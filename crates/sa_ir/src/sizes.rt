@@ -11,13 +11,13 @@ use std::alloc::Global;
 
 /// How many cells and how many elements there are. A number that doesn't fit is the greatest that does.
 #[derive(Clone, Copy, Debug, PartialEq, Eq)]
-pub(crate) struct Extent {
-    pub(crate) cells: usize,
-    pub(crate) elements: usize,
+pub struct Extent {
+    pub cells: usize,
+    pub elements: usize,
 }
 
 /// How many cells and elements a shape has, which may hold the first `structs` structures.
-pub(crate) fn shape_extent(
+pub fn shape_extent(
     program: &Program,
     table: &[Items<Extent>],
     structs: usize,
@@ -30,7 +30,7 @@ pub(crate) fn shape_extent(
 }
 
 /// How many cells and elements arrays of these dimensions have, around what may hold the first `structs` structures.
-pub(crate) fn dims_extent(
+pub fn dims_extent(
     program: &Program,
     table: &[Items<Extent>],
     structs: usize,
@@ -73,7 +73,7 @@ fn cells_for(n: u32) -> usize
 }
 
 /// How many cells and elements a number or a structure has.
-pub(crate) fn plain_extent(
+pub fn plain_extent(
     program: &Program,
     table: &[Items<Extent>],
     structs: usize,
@@ -113,10 +113,7 @@ fn struct_extent(program: &Program, table: &[Items<Extent>], structs: usize, k: 
 }
 
 /// Of each structure what stands before each field, and in all.
-pub(crate) fn struct_table(
-    alloc: Global,
-    program: &Program,
-) -> Result<Items<Items<Extent>>, OutOfMemory>
+pub fn struct_table(alloc: Global, program: &Program) -> Result<Items<Items<Extent>>, OutOfMemory>
     ensures { IfOk result (λ r. r ≡ all_extents (reverse program.now.structs)) }
 {
     let structs = program.structs.as_slice();

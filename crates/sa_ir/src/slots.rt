@@ -23,11 +23,11 @@ use std::alloc::Global;
 /// A cell: the type of its numbers, whether it stands for several elements, and the least and the greatest initial value of
 /// these.
 #[derive(Clone, Copy, Debug, PartialEq, Eq)]
-pub(crate) struct Slot {
-    pub(crate) num: Num,
-    pub(crate) starred: bool,
-    pub(crate) lo: i128,
-    pub(crate) hi: i128,
+pub struct Slot {
+    pub num: Num,
+    pub starred: bool,
+    pub lo: i128,
+    pub hi: i128,
 }
 
 /// Elements that something stands at: whether they are several by a large array, the numbers of those that have initial
@@ -48,7 +48,7 @@ struct Spot {
 
 /// A type that is no array and stands for another, whose cells it has: starred if this says so.
 #[derive(Clone, Copy, Debug)]
-pub(crate) struct Core {
+pub struct Core {
     plain: Plain,
     starred: bool,
 }
@@ -342,7 +342,7 @@ fn spot_of(program: &Program, structs: usize, plain: Plain, core: Core, elements
 /// Of each structure that has the same cells as a simpler type that type: what is left when structures of one field are
 /// unwrapped, as long as the field has one element or is a large array. So an object of a long chain of such structures is
 /// read in one step.
-pub(crate) fn cores(alloc: Global, program: &Program) -> Result<Items<Option<Core>>, OutOfMemory>
+pub fn cores(alloc: Global, program: &Program) -> Result<Items<Option<Core>>, OutOfMemory>
     ensures { IfOk result (AreCores program.now.structs) }
 {
     let structs = program.structs.as_slice();
@@ -547,7 +547,7 @@ fn first_element(alloc: Global, len: usize) -> Result<Elements, OutOfMemory>
 
 /// The cells of a variable of this shape and with these initial values, in their order. An object is read when all before it
 /// are, from a list of what is still to be read, so that neither the nesting of arrays nor that of structures is one of calls.
-pub(crate) fn slots(
+pub fn slots(
     alloc: Global,
     program: &Program,
     table: &[Items<Extent>],

@@ -15,34 +15,34 @@ use std::alloc::{AllocError, Global};
 
 /// Of a variable how many cells of its home stand before its own, and how many it has.
 #[derive(Clone, Copy, Debug, PartialEq, Eq)]
-pub(crate) struct Seat {
-    pub(crate) offset: usize,
-    pub(crate) cells: usize,
+pub struct Seat {
+    pub offset: usize,
+    pub cells: usize,
 }
 
 /// The variables of one home that have cells, in the order of their declarations, and how many cells these are.
 #[derive(Debug, Drop)]
-pub(crate) struct Section {
-    pub(crate) cells: usize,
-    pub(crate) vars: Items<u32>,
+pub struct Section {
+    pub cells: usize,
+    pub vars: Items<u32>,
 }
 
 /// The sections of globals, of static locals, and of the functions' locals.
 #[derive(Debug, Drop)]
-pub(crate) struct Sections {
-    pub(crate) globals: Section,
-    pub(crate) statics: Section,
-    pub(crate) locals: Vec<Section>,
+pub struct Sections {
+    pub globals: Section,
+    pub statics: Section,
+    pub locals: Vec<Section>,
 }
 
 /// What is fixed of a program's objects: of each structure what stands before each field, and last what stands in all of them;
 /// a simpler type with the same cells, if there is one; of each variable where its cells stand; and the sections.
 #[derive(Debug, Drop)]
-pub(crate) struct Table {
-    pub(crate) structs: Items<Items<Extent>>,
-    pub(crate) cores: Items<Option<Core>>,
-    pub(crate) seats: Items<Seat>,
-    pub(crate) sections: Sections,
+pub struct Table {
+    pub structs: Items<Items<Extent>>,
+    pub cores: Items<Option<Core>>,
+    pub seats: Items<Seat>,
+    pub sections: Sections,
 }
 
 // ---- references
@@ -126,7 +126,7 @@ impl Sections {
     }
 
     /// How many cells there are so far.
-    pub(crate) fn cells(&self, home: Home) -> usize
+    pub fn cells(&self, home: Home) -> usize
         ensures { result ≡ (section_of self.now home).cells }
     {
         match home {
@@ -140,7 +140,7 @@ impl Sections {
     }
 
     /// The variables that have cells and live there.
-    pub(crate) fn vars(&self, home: Home) -> &[u32]
+    pub fn vars(&self, home: Home) -> &[u32]
         ensures { result.now ≡ (section_of self.now home).vars }
     {
         match home {
@@ -155,7 +155,7 @@ impl Sections {
 }
 
 /// A number as a `u32`. A list of more than those count is more than memory holds.
-pub(crate) fn number(n: usize) -> Result<u32, OutOfMemory>
+pub fn number(n: usize) -> Result<u32, OutOfMemory>
     ensures value { IfOk result (λ r. r ≡ n) }
     ensures few { OnOk result (n ≤ 4294967295) }
 {
@@ -243,7 +243,7 @@ fn seats(
 
 impl Table {
     /// What is fixed of a program's objects.
-    pub(crate) fn of(alloc: Global, program: &Program) -> Result<Table, OutOfMemory>
+    pub fn of(alloc: Global, program: &Program) -> Result<Table, OutOfMemory>
         ensures { IfOk result (IsTable program.now) }
     {
         let structs = struct_table(alloc, program)?;
@@ -260,7 +260,7 @@ impl Table {
     }
 
     /// Where the cells of a variable stand.
-    pub(crate) fn seat(&self, var: u32) -> Option<Seat>
+    pub fn seat(&self, var: u32) -> Option<Seat>
         ensures { result ≡ slice_get self.now.seats var }
     {
         self.seats.get(var as usize).copied()

@@ -1,3 +1,6 @@
 pub mod Lists
 pub mod RowLaws
 pub mod OccurringLaws
+pub mod ShownLaws
+pub mod Counts
+pub mod ArgumentLaws

@@ -1,5 +1,5 @@
 -- The cells of each form of an expression, an assignment and a statement, as code puts them into a set.
-use Rattle.std.proofs.Common.{◌≡◌, ℕ, List, [], ◌∷◌, ◌++◌, refl, sym, ap, ◌∙◌, Bool, Option}
+use Rattle.std.proofs.Common.{◌≡◌, ℕ, List, [], ◌++◌, refl, sym, ap, ◌∙◌, Bool, Option}
 use Rattle.std.specs.List.{flat_map}
 use Rattle.std.specs.Prelude.{None}
 use Rattle.sa_base.specs.declared.num.Num.{Num}
@@ -22,7 +22,7 @@ use Rattle.sa_ir.specs.declared.node.IrGroup.{IrGroup}
 use Rattle.sa_ir.specs.declared.node.Node.{Node, Block', Switch', Row_of-Node, end_of-Node, more_of-Node, items-the_row-Node, items_hidden-the_row-Node-0, Row_of-IrGroup, end_of-IrGroup, more_of-IrGroup, items-the_row-IrGroup, items_hidden-the_row-IrGroup-2}
 use Rattle.sa_ir.specs.declared.node.Node.TheVariants as node
 use Rattle.sa_ir.specs.declared.node.Node.TheBlock.{hidden-the_row-Node-1, shown-the_row-Node-1}
-use Rattle.sa_ir.specs.Occurrences.{every, rows_cells, expr_cells, all_expr_cells, links_cells, index_cells, read_cells, place_cells, assign_cells, some_expr_cells, some_assign_cells, node_cells, all_node_cells, group_cells}
+use Rattle.sa_ir.specs.Occurrences.{every, expr_cells, all_expr_cells, links_cells, index_cells, read_cells, place_cells, assign_cells, some_expr_cells, some_assign_cells, node_cells, all_node_cells, group_cells}
 use Rattle.sa_ir.specs.Shown.{with_all}
 use Rattle.sa_lower.specs.Rows.{rows_lead}
 use Rattle.sa_lower.specs.Occurring.{link_cells, row_cells, body_cells}

@@ -4,7 +4,7 @@ use Rattle.std.proofs.lemmas.List.{drop_more, drop_all}
 use Rattle.sa_base.specs.declared.num.Num.{Num}
 use Rattle.sa_base.specs.declared.pos.Pos.{Pos}
 use Rattle.sa_typed.specs.declared.expr.Prefix.{Prefix}
-use Rattle.sa_ir.specs.declared.expr.IrExpr.{IrExpr, Read', Chain', And', Or', Row_of-IrExpr, end_of-IrExpr, more_of-IrExpr, items-the_row-IrExpr, items_hidden-the_row-IrExpr-3, Row_of-IrLink, end_of-IrLink, more_of-IrLink, items-the_row-IrLink, items_hidden-the_row-IrLink-2, Row_of-Row, end_of-Row, more_of-Row, items-the_row-Row, items_hidden-the_row-Row-0}
+use Rattle.sa_ir.specs.declared.expr.IrExpr.{IrExpr, Read', Chain', And', Or', Row_of-IrExpr, end_of-IrExpr, more_of-IrExpr, items-the_row-IrExpr, items_hidden-the_row-IrExpr-3, Row_of-IrLink, end_of-IrLink, more_of-IrLink, items-the_row-IrLink, items_hidden-the_row-IrLink-2, Row_of-Row, end_of-Row, more_of-Row, items-the_row-Row}
 use Rattle.sa_ir.specs.declared.expr.IrExpr.TheVariants as e
 use Rattle.sa_ir.specs.declared.expr.IrExpr.TheBlock.{hidden-the_row-IrExpr-1}
 use Rattle.sa_ir.specs.declared.expr.IrLink.{IrLink}

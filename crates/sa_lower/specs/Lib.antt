@@ -1,2 +1,5 @@
 pub mod Rows
 pub mod Occurring
+pub mod Showing
+pub mod Counting
+pub mod Arguments

@@ -152,7 +152,7 @@ pub fn add_assign(alloc: Global, a: &IrAssign, cells: &mut BTreeSet<u32>) -> Res
 
 /// The cells that occur in a loop's condition.
 #[tactic(auto, using(crate::proofs::OccurringLaws::of_none))]
-pub(crate) fn add_condition(
+pub fn add_condition(
     alloc: Global,
     condition: &Option<IrExpr>,
     cells: &mut BTreeSet<u32>,
@@ -167,7 +167,7 @@ pub(crate) fn add_condition(
 
 /// The cells that occur in a loop's step.
 #[tactic(auto, using(crate::proofs::OccurringLaws::of_none))]
-pub(crate) fn add_step(
+pub fn add_step(
     alloc: Global,
     step: &Option<IrAssign>,
     cells: &mut BTreeSet<u32>,

@@ -1,4 +1,3 @@
-use Rattle.std.proofs.Common.{◌∙◌, ◌++◌, ap, ℕ}
 use Rattle.sa_ir.specs.Occurrences.{every}
 use Rattle.sa_lower.proofs.Lists.{flat-more, flat-end}
 use Rattle.sa_lower.proofs.named.spread.Goals as goal
