@@ -157,7 +157,7 @@ here-below a m d h = omega (arith, h)
 rest-below : (a m d : ℕ) → max (1 + a) m < suc d → m < suc d
 rest-below a m d h = omega (arith, h)
 
-all-below : (B : ℕ → ℕ) (d : ℕ) (sites : List Site) → deepest B sites < suc d → AllByRecursion (λ s. B s.func < d) sites
+pub all-below : (B : ℕ → ℕ) (d : ℕ) (sites : List Site) → deepest B sites < suc d → AllByRecursion (λ s. B s.func < d) sites
 unfolding deepest
 all-below B d [] h = tt
 all-below B d (s ∷ sites) h = (here-below (B s.func) (deepest B sites) d h, all-below B d sites (rest-below (B s.func) (deepest B sites) d h))

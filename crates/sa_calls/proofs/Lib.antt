@@ -4,3 +4,5 @@ pub mod GraphLemmas
 pub mod ReachLemmas
 pub mod VisitLemmas
 pub mod FirstLemmas
+pub mod RankLemmas
+pub mod RankLaws

@@ -2,8 +2,9 @@
 -- call themselves, ISO C 6.5.2.2p11).
 use Rattle.std.specs.Prelude.{ℕ, ◌≡◌, ◌<◌, ◌⊎◌, ◌==◌, ◌&&◌, ◌||◌, not, nat_lt, Bool, true, false, List, [], ◌∷◌, ◌++◌, length, set, get_or, slice_get, if◌then◌else◌, Option, Some, None}
 use Rattle.sa_base.specs.declared.pos.Pos.{Pos}
-use Rattle.sa_typed.specs.TypedPrograms.{Site, calls_in}
+use Rattle.sa_typed.specs.TypedPrograms.{Site, calls_in, AreRanked}
 use Rattle.sa_typed.specs.declared.program.Func.{Func}
+use Rattle.sa_typed.specs.declared.program.Program.{Program}
 use Rattle.sa_typed.specs.declared.stmt.Group.{Group}
 use Rattle.sa_typed.specs.declared.stmt.Stmt.{Stmt}
 use Rattle.sa_typed.specs.declared.stmt.Stmt.TheVariants as stmt
@@ -81,3 +82,16 @@ marks_all (c ∷ cs) marks = marks_all cs (marks_after c.func marks)
 unfoldable pub order_all : List Call → List Bool → List ℕ → List ℕ
 order_all [] marks order = order
 order_all (c ∷ cs) marks order = order_all cs (marks_after c.func marks) (order_after c.func marks order)
+
+-- ---- ranks
+-- each call is of a function that there is
+abbrev pub AreKnown : List (List Call) → Type 0
+AreKnown graph = (f i : ℕ) (c : Call) → slice_get (calls_at graph f) i ≡ Some c → c.func < length graph
+
+-- where no call leads back, each function has a rank above those of the functions that it calls
+abbrev pub RanksAreThere : Type 0
+RanksAreThere = (p : Program) → AreKnown (graph_of p.funcs) → IsFirstBack (graph_of p.funcs) None → (rank : ℕ → ℕ) × AreRanked p rank
+
+-- and where functions are so ranked, none does
+abbrev pub RankedLeadsNowhereBack : Type 0
+RankedLeadsNowhereBack = (p : Program) (rank : ℕ → ℕ) → AreRanked p rank → IsFirstBack (graph_of p.funcs) None

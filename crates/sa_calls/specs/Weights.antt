@@ -1,5 +1,5 @@
 -- What is counted of a statement and of a body, once the bodies that it calls are counted.
-use Rattle.std.specs.Prelude.{ℕ, ◌+◌, ◌-◌, ◌^◌, ◌≡◌, max, min, List, [], ◌∷◌, get_or, Option, Some, None, nat_lt, if◌then◌else◌}
+use Rattle.std.specs.Prelude.{ℕ, ◌+◌, ◌-◌, ◌^◌, ◌≡◌, max, min, List, [], ◌∷◌, get_or, Option, Some, None, nat_lt, Bool, true, ◌&&◌, if◌then◌else◌}
 use Rattle.sa_base.specs.Numbers.{limit_number}
 use Rattle.sa_base.specs.declared.limit.Limit.{Limit}
 use Rattle.sa_base.specs.declared.limit.Limit.TheVariants.{Calls, Statements}
@@ -74,6 +74,11 @@ deeper rows (f ∷ fs) = weight_in rows (stmt.Block f.body) ∷ deeper rows fs
 -- the list has the weight of each body, where calls inside calls go so deep
 abbrev pub AreWeights : Program → ℕ → List Weight → Type 0
 AreWeights p depth rows = (f : ℕ) → weight_at rows f ≡ weight (body_calls p depth f) (body_statements p depth f)
+
+-- all of them have fewer calls on a path
+unfoldable pub all_below : ℕ → List Weight → Bool
+all_below depth [] = true
+all_below depth (w ∷ rows) = nat_lt w.calls depth && all_below depth rows
 
 -- the first limit that the inlined program is over
 unfoldable pub over_limit : ℕ → ℕ → Option Limit

@@ -6,6 +6,7 @@ ghost use Rattle.sa_calls.specs.Recursion.{graph_of, calls_at, marks_after, orde
 
 use crate::OutOfMemory;
 use crate::graph::{Call, calls_at, graph};
+use crate::weights::is_shallow;
 use sa_base::Pos;
 use sa_typed::Program;
 use sqlite_items::Items;
@@ -145,9 +146,15 @@ fn first_in(alloc: Global, graph: &[Items<Call>]) -> Result<Option<Pos>, OutOfMe
 }
 
 /// The place of the first call that leads back to the function that it stands in, by however many calls.
+///
+/// Where no path of calls is longer than may be, there is none, and the time grows with the text alone. Else it may grow with
+/// the product of functions and calls.
 pub fn first_back(alloc: Global, program: &Program) -> Result<Option<Pos>, OutOfMemory>
     ensures { IfOk result (λ r. IsFirstBack (graph_of program.now.funcs) r) }
 {
+    if is_shallow(alloc, program)? {
+        return Ok(None);
+    }
     let calls = graph(alloc, program.funcs.as_slice())?;
     first_in(alloc, calls.as_slice())
 }

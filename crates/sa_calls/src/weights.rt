@@ -1,7 +1,8 @@
 //! How deep calls go, and how many statements the inlined program has.
 
-ghost use Rattle.std.specs.Prelude.{◌≡◌, length, min, IfOk};
-ghost use Rattle.sa_calls.specs.Weights.{nothing, one, both, one_more, called, with_step, weight_at, weight_in, weight_after, groups_after, deeper, over_limit, first_over, AreWeights};
+ghost use Rattle.std.specs.Prelude.{◌≡◌, length, min, true, None, IfOk};
+ghost use Rattle.sa_calls.specs.Weights.{nothing, one, both, one_more, called, with_step, weight_at, weight_in, weight_after, groups_after, deeper, all_below, over_limit, first_over, AreWeights};
+ghost use Rattle.sa_calls.specs.Recursion.{graph_of, IsFirstBack};
 
 use crate::OutOfMemory;
 use sa_base::Limit;
@@ -157,6 +158,34 @@ fn weights(alloc: Global, program: &Program, depth: usize) -> Result<Vec<Weight>
     Ok(rows)
 }
 
+/// As many rounds as calls may stand on a path, and one more, tell the depth of each body that isn't too deep.
+fn rounds(program: &Program) -> usize
+    ensures { result ≡ min (length program.now.funcs) 65 }
+{
+    program.funcs.len().min(Limit::Calls.number() as usize + 1)
+}
+
+/// Whether all of them have fewer calls on a path.
+fn all_below(rows: &[Weight], depth: usize) -> bool
+    ensures { result ≡ all_below depth rows.now }
+{
+    for row in rows {
+        if depth <= row.calls {
+            return false;
+        }
+    }
+    true
+}
+
+/// Whether no function has more calls on a path than may stand there: then none leads back to itself.
+pub(crate) fn is_shallow(alloc: Global, program: &Program) -> Result<bool, OutOfMemory>
+    ensures { IfOk result (λ r. r ≡ true → IsFirstBack (graph_of program.now.funcs) None) }
+{
+    let depth = rounds(program);
+    let rows = weights(alloc, program, depth)?;
+    Ok(all_below(&rows, depth))
+}
+
 #[tactic(auto, unfolding(crate::specs::Weights::over_limit))]
 fn over_limit(weight: Weight) -> Option<Limit>
     ensures { result ≡ over_limit weight.calls weight.statements }
@@ -171,12 +200,9 @@ fn over_limit(weight: Weight) -> Option<Limit>
 }
 
 /// The first limit of those on calls on one path and on statements that the inlined program is over.
-///
-/// As many rounds as calls may stand on a path, and one more, tell the depth of each body that isn't too deep.
 pub fn first_over(alloc: Global, program: &Program) -> Result<Option<Limit>, OutOfMemory>
     ensures { IfOk result (λ r. r ≡ first_over program.now) }
 {
-    let depth = program.funcs.len().min(Limit::Calls.number() as usize + 1);
-    let rows = weights(alloc, program, depth)?;
+    let rows = weights(alloc, program, rounds(program))?;
     Ok(over_limit(weight_at(&rows, program.entry)))
 }
