@@ -1,3 +1,4 @@
 pub mod Bridges
 pub mod Forms
 pub mod Tame
+pub mod Formed

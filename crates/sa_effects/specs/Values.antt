@@ -53,3 +53,11 @@ converted num a = value_of (converted_operand num (held a))
 -- the form of a value has a constant that code can add
 abbrev pub IsTame : Value → Type 0
 IsTame a = IfSome a.form (λ f. IsModest f.c)
+
+-- a form that there is has one of the span's numbers, where the cells have these
+abbrev pub Shows : (ℕ → ℤ) → Option Span → Option Form → Type 0
+Shows at s f = IfSome f (λ f. IsSomeAnd s (λ s. Within s (form_number f at)))
+
+-- the form of a value has one of its numbers
+abbrev pub IsFormed : (ℕ → ℤ) → Value → Type 0
+IsFormed at a = Shows at a.span a.form
