@@ -54,7 +54,7 @@ clock_is : (e : Flat) → clock_of e ≡ option_map (λ a. a.clock) (opened e)
 clock_is dead = refl
 clock_is (live t xs) = refl
 
-cell_is : (l : Limits) (c : ℕ) (e : Flat) → c < length l.tops → IsFair l e → cell_of c e ≡ option_map (reference.cell_of c) (opened e)
+pub cell_is : (l : Limits) (c : ℕ) (e : Flat) → c < length l.tops → IsFair l e → cell_of c e ≡ option_map (reference.cell_of c) (opened e)
 cell_is l c dead less h = refl
 cell_is l c (live t xs) less h = get_there xs c (let same = same_length l.tops xs h.1 in omega (arith, less, same))
 
@@ -152,7 +152,7 @@ has_all : (l : Limits) (e : Flat) → IsFair l e → Has (length l.tops) e
 has_all l dead h = tt
 has_all l (live t xs) h = same_length l.tops xs h.1
 
-imposed_is : (l : Limits) (f : Form) (k : ℤ) (e : Flat) → IsForm l.tops f → IsFair l e → opened (imposed f k e) ≡ alive_then (opened e) (reference.impose_of f k)
+pub imposed_is : (l : Limits) (f : Form) (k : ℤ) (e : Flat) → IsForm l.tops f → IsFair l e → opened (imposed f k e) ≡ alive_then (opened e) (reference.impose_of f k)
 unfolding imposed
 imposed_is l f k e h fair = terms_is (length l.tops) f.first f.second (k -ℤ f.c) e h.first h.second (has_all l e fair)
 

@@ -2,3 +2,4 @@ pub mod Bridges
 pub mod Forms
 pub mod Tame
 pub mod Formed
+pub mod Guards
