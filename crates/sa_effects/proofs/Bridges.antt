@@ -1,12 +1,12 @@
 -- Each operation on flat environments is that of the reference analysis on its own lists.
-use Rattle.std.proofs.Common.{◌≡◌, ℕ, zero, suc, ◌<◌, ℤ, pos, ◌-ℤ◌, Bool, true, false, List, [], ◌∷◌, length, refl, sym, ap, ◌∙◌, subst, arith, get_or, set, Option, None, Some}
+use Rattle.std.proofs.Common.{◌≡◌, ℕ, zero, suc, ◌<◌, ℤ, pos, ◌-ℤ◌, Bool, true, false, List, [], ◌∷◌, length, refl, sym, ap, ◌∙◌, arith, get_or, Option, None, Some}
 use Rattle.std.specs.Prelude.{slice_get, slice_set, option_map, IfSome, ◌&&◌, if◌then◌else◌}
-use Rattle.sa_interval.specs.Span.{Span, IsPart}
+use Rattle.sa_interval.specs.Span.{Span}
 use Rattle.sa_interval.specs.Rows.{single, join_of, is_part, meet_of, sum_of}
 use Rattle.sa_shared.specs.Slots.{slotwise, EachSlot}
 use Rattle.sa_env.specs.declared.form.Form.{Form}
 use Rattle.sa_env.specs.declared.form.Term.{Term}
-use Rattle.sa_env.specs.Flat.{Flat, dead, live, Limits, IsFair, IsIn, cells_of, clock_of, cell_of, assigned, join, is_below, all_parts, ticked, at_clock, spread, widened_spans, whole_clock, widened_clock}
+use Rattle.sa_env.specs.Flat.{Flat, dead, live, Limits, IsFair, IsIn, clock_of, cell_of, assigned, join, is_below, all_parts, ticked, at_clock, spread, widened_spans, whole_clock, widened_clock}
 use Rattle.sa_env.specs.Forms.{IsForm, imposed, cut, cut_some, cut_by, narrowed, term_imposed, terms_imposed, least_of, least_term}
 use Rattle.sa_base.specs.declared.num.Num.{Num}
 use Rattle.sa_operators.specs.Operators.{range_of}

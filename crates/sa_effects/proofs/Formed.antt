@@ -1,30 +1,30 @@
 -- The form of a value is one of its numbers, whatever numbers the cells have: operators and conversions keep that.
-use Rattle.std.proofs.Common.{◌≡◌, ℤ, pos, ◌+ℤ◌, ◌-ℤ◌, ◌≤ℤ◌, true, false, List, [], ◌∷◌, refl, sym, ap, subst, ◌∙◌, arith, ℕ, Option, Some, None}
-use Rattle.std.specs.Prelude.{if◌then◌else◌, IfSome, IsSomeAnd, option_map, Result, Ok, Err}
+use Rattle.std.proofs.Common.{◌≡◌, ℤ, pos, ◌+ℤ◌, ◌-ℤ◌, ◌≤ℤ◌, true, false, refl, sym, subst, arith, ℕ, Option, Some, None}
+use Rattle.std.specs.Prelude.{if◌then◌else◌, IfSome, IsSomeAnd, option_map, Result}
 use Rattle.std.proofs.lemmas.Int.{ints, clamps}
 use Rattle.sa_base.specs.declared.alarm.Kind.{Kind}
 use Rattle.sa_base.specs.declared.alarm.Kind.TheVariants.{Conversion}
 use Rattle.sa_base.specs.declared.num.Num.{Num}
 use Rattle.sa_base.specs.declared.pos.Pos.{Pos}
-use Rattle.sa_interval.specs.Span.{Span, Within, IsPart, cut}
+use Rattle.sa_interval.specs.Span.{Span, Within, cut}
 use Rattle.sa_interval.specs.Rows.{single, is_part, sum_of, difference_of}
 use Rattle.sa_interval.proofs.Sums.{least_sum, least_difference}
-use Rattle.sa_typed.specs.Arithmetic.{IsOf, as_num}
+use Rattle.sa_typed.specs.Arithmetic.{IsOf}
 use Rattle.sa_typed.proofs.ArithmeticLaws.{num_facts}
 use Rattle.sa_typed.specs.declared.expr.Operator.{Operator}
 use Rattle.sa_typed.specs.declared.expr.Operator.TheVariants as o
 use Rattle.sa_typed.specs.declared.expr.Prefix.{Prefix}
 use Rattle.sa_typed.specs.declared.expr.Prefix.TheVariants as p
-use Rattle.sa_operators.specs.Operators.{range_of, IsIn, as_span, in_type_span, converted_span, conversion_alarms, operator_span, prefix_span, negated_span}
+use Rattle.sa_operators.specs.Operators.{range_of, as_span, in_type_span, converted_span, conversion_alarms, operator_span, prefix_span, negated_span}
 use Rattle.sa_operators.specs.OperatorLaws.{IsSmallSpan, Suits, SuitsRight, Covers}
-use Rattle.sa_operators.proofs.FitLaws.{is_part_from, types_are_small, conversions_cover, operands_cover, operands_stay, uncut_of}
+use Rattle.sa_operators.proofs.FitLaws.{is_part_from, types_are_small, conversions_cover, operands_cover, operands_stay}
 use Rattle.sa_env.specs.declared.form.Form.{Form}
 use Rattle.sa_flat.specs.Forms.{sum_form, difference_form, negative, form_number}
-use Rattle.sa_flat.specs.Meanings.{linked, form_within, form_in, both_forms, both_spans, as_operand, operation_form, prefix_form}
+use Rattle.sa_flat.specs.Meanings.{linked, form_within, form_in, both_forms, as_operand, operation_form, prefix_form}
 use Rattle.sa_flat.specs.Passes.{alive_then}
 use Rattle.sa_flat.proofs.Numbers.{as_num_same, in_type_same, of_part, sum_of_type, difference_of_type, sum_number, difference_number, negative_number}
 use Rattle.sa_effects.specs.declared.value.Value.{Value}
-use Rattle.sa_effects.specs.Values.{held, value_of, operated, prefixed, converted, Shows, IsFormed}
+use Rattle.sa_effects.specs.Values.{held, operated, prefixed, converted, Shows, IsFormed}
 
 nowhere : Pos
 nowhere = record { line = 0; col = 0 }

@@ -1,5 +1,5 @@
 -- Guards by forms, in environments of a shop.
-use Rattle.std.proofs.Common.{◌≡◌, ◌∙◌, ℕ, ◌<◌, ◌^◌, ◌-◌, ℤ, pos, negsuc, ◌+ℤ◌, ◌-ℤ◌, ◌≤ℤ◌, true, false, List, [], ◌∷◌, ◌++◌, length, refl, sym, ap, subst, arith, Option, Some, None}
+use Rattle.std.proofs.Common.{◌≡◌, ◌∙◌, ℕ, ◌<◌, ℤ, pos, ◌+ℤ◌, ◌-ℤ◌, true, false, List, [], ◌∷◌, ◌++◌, length, refl, sym, ap, subst, arith, Option, Some, None}
 use Rattle.std.specs.Prelude.{IfSome, option_map, if◌then◌else◌, ◌==◌, int_lt, Bool}
 use Rattle.std.proofs.lemmas.Int.{ints}
 use Rattle.sa_interval.specs.Span.{Span}
@@ -70,10 +70,10 @@ unfolding flat_of
 dead_state s = refl
 
 -- ---- forms that are imposed
-abbrev AreApart : Form → Type 0
+abbrev pub AreApart : Form → Type 0
 AreApart f = IfSome f.first (λ t. IfSome f.second (λ u. t.cell ≡ u.cell → ⊥))
 
-form_apart : (ts : List Term) (c : ℤ) → IfSome (form_of ts c) AreApart
+pub form_apart : (ts : List Term) (c : ℤ) → IfSome (form_of ts c) AreApart
 unfolding form_of
 form_apart [] c = tt
 form_apart (a ∷ []) c = tt
@@ -128,7 +128,7 @@ turned_less : (tops : List Span) (o : Option Term) → IfSome o (λ t. t.cell < 
 turned_less tops None h = tt
 turned_less tops (Some t) h = h
 
-turned_apart : (a b : Option Term) → IfSome a (λ t. IfSome b (λ u. t.cell ≡ u.cell → ⊥)) → IfSome (turned a) (λ t. IfSome (turned b) (λ u. t.cell ≡ u.cell → ⊥))
+pub turned_apart : (a b : Option Term) → IfSome a (λ t. IfSome b (λ u. t.cell ≡ u.cell → ⊥)) → IfSome (turned a) (λ t. IfSome (turned b) (λ u. t.cell ≡ u.cell → ⊥))
 turned_apart None b h = tt
 turned_apart (Some a) None h = tt
 turned_apart (Some a) (Some b) h = h

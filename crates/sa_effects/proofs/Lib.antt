@@ -3,3 +3,4 @@ pub mod Forms
 pub mod Tame
 pub mod Formed
 pub mod Guards
+pub mod Light

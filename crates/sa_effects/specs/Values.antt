@@ -1,10 +1,10 @@
 -- Values as code holds them: of one environment, where the reference analysis has an operand of each.
-use Rattle.std.specs.Prelude.{ℕ, ◌<◌, ◌≤ℤ◌, ℤ, pos, negsuc, ◌^◌, ◌-◌, Bool, true, false, List, [], ◌∷◌, length, Option, Some, None, IfSome, IsSomeAnd, option_map}
+use Rattle.std.specs.Prelude.{ℕ, ◌≤ℤ◌, ℤ, pos, negsuc, ◌^◌, ◌-◌, Bool, true, false, List, [], ◌∷◌, Option, Some, None, IfSome, IsSomeAnd}
 use Rattle.sa_base.specs.declared.num.Num.{Num}
 use Rattle.sa_interval.specs.Span.{Span, Within}
 use Rattle.sa_typed.specs.declared.expr.Operator.{Operator}
 use Rattle.sa_typed.specs.declared.expr.Prefix.{Prefix}
-use Rattle.sa_operators.specs.Operators.{prefix_span, converted_span}
+use Rattle.sa_operators.specs.Operators.{prefix_span}
 use Rattle.sa_operators.specs.OperatorLaws.{IsSmallSpan}
 use Rattle.sa_env.specs.declared.form.Form.{Form}
 use Rattle.sa_env.specs.declared.form.Term.{Term}

@@ -1,7 +1,6 @@
-use Rattle.std.proofs.Common.{◌≡◌, Option, Some, None, ℤ, subst, arith, to_z, of_z}
+use Rattle.std.proofs.Common.{◌≡◌, ℤ, subst, arith, to_z, of_z}
 use mir.Syntax.{w128}
 use Rattle.std.proofs.lemmas.Int.{ints}
-use Rattle.std.specs.Prelude.{IfOk}
 use Rattle.sa_env.specs.Forms.{imposed, IsForm}
 use Rattle.sa_env.specs.Shop.{flat_of}
 use Rattle.sa_env.proofs.Lists.{if_ok}

@@ -1,17 +1,11 @@
-use Rattle.std.proofs.Common.{rules, ◌≡◌, ◌∙◌, sym, ap, Option, Some, None, ℤ, ◌+ℤ◌, ◌-ℤ◌, true, false, subst, arith, to_z, of_z}
+use Rattle.std.proofs.Common.{◌≡◌, ◌∙◌, ℤ, subst, arith, to_z, of_z}
 use mir.Syntax.{w128}
 use Rattle.std.proofs.lemmas.Int.{ints}
-use Rattle.std.specs.Prelude.{IfOk, IfSome, option_map, int_lt}
-use Rattle.sa_env.specs.declared.env.Env.TheVariants.{Dead}
-use Rattle.sa_env.specs.declared.form.Form.{Form}
-use Rattle.sa_env.specs.Forms.{IsForm}
 use Rattle.sa_env.proofs.Lists.{if_ok}
-use Rattle.sa_flat.specs.Forms.{negative, difference_form}
 use Rattle.sa_flat.specs.Intervals as reference
-use Rattle.sa_flat.specs.Meanings.{at_most, both_forms, imposed, bound}
+use Rattle.sa_flat.specs.Meanings.{at_most}
 use Rattle.sa_flat.specs.Passes.{alive_then}
 use Rattle.sa_effects.specs.Stands.{state_of}
-use Rattle.sa_effects.specs.Values.{everywhere}
 use Rattle.sa_effects.proofs.Guards.{then_then}
 use Rattle.sa_effects.proofs.guard.both_at_most.Goals as goal
 
