@@ -1,12 +1,12 @@
 -- Each operation on flat environments is that of the reference analysis on its own lists.
-use Rattle.std.proofs.Common.{◌≡◌, ℕ, zero, suc, ◌<◌, ℤ, pos, ◌-ℤ◌, Bool, true, false, List, [], ◌∷◌, length, refl, sym, ap, ◌∙◌, subst, arith, get_or, set, Option, None, Some}
+use Rattle.std.proofs.Common.{◌≡◌, ℕ, zero, suc, ◌<◌, ℤ, pos, ◌-ℤ◌, Bool, true, false, List, [], ◌∷◌, length, refl, sym, ap, ◌∙◌, arith, get_or, Option, None, Some}
 use Rattle.std.specs.Prelude.{slice_get, slice_set, option_map, IfSome, ◌&&◌, if◌then◌else◌}
-use Rattle.sa_interval.specs.Span.{Span, IsPart}
+use Rattle.sa_interval.specs.Span.{Span}
 use Rattle.sa_interval.specs.Rows.{single, join_of, is_part, meet_of, sum_of}
 use Rattle.sa_shared.specs.Slots.{slotwise, EachSlot}
 use Rattle.sa_env.specs.declared.form.Form.{Form}
 use Rattle.sa_env.specs.declared.form.Term.{Term}
-use Rattle.sa_env.specs.Flat.{Flat, dead, live, Limits, IsFair, IsIn, cells_of, clock_of, cell_of, assigned, join, is_below, all_parts, ticked, at_clock, spread, widened_spans, whole_clock, widened_clock}
+use Rattle.sa_env.specs.Flat.{Flat, dead, live, Limits, IsFair, IsIn, clock_of, cell_of, assigned, join, is_below, all_parts, ticked, at_clock, spread, widened_spans, whole_clock, widened_clock}
 use Rattle.sa_env.specs.Forms.{IsForm, imposed, cut, cut_some, cut_by, narrowed, term_imposed, terms_imposed, least_of, least_term}
 use Rattle.sa_base.specs.declared.num.Num.{Num}
 use Rattle.sa_operators.specs.Operators.{range_of}
@@ -54,7 +54,7 @@ clock_is : (e : Flat) → clock_of e ≡ option_map (λ a. a.clock) (opened e)
 clock_is dead = refl
 clock_is (live t xs) = refl
 
-cell_is : (l : Limits) (c : ℕ) (e : Flat) → c < length l.tops → IsFair l e → cell_of c e ≡ option_map (reference.cell_of c) (opened e)
+pub cell_is : (l : Limits) (c : ℕ) (e : Flat) → c < length l.tops → IsFair l e → cell_of c e ≡ option_map (reference.cell_of c) (opened e)
 cell_is l c dead less h = refl
 cell_is l c (live t xs) less h = get_there xs c (let same = same_length l.tops xs h.1 in omega (arith, less, same))
 
@@ -152,7 +152,7 @@ has_all : (l : Limits) (e : Flat) → IsFair l e → Has (length l.tops) e
 has_all l dead h = tt
 has_all l (live t xs) h = same_length l.tops xs h.1
 
-imposed_is : (l : Limits) (f : Form) (k : ℤ) (e : Flat) → IsForm l.tops f → IsFair l e → opened (imposed f k e) ≡ alive_then (opened e) (reference.impose_of f k)
+pub imposed_is : (l : Limits) (f : Form) (k : ℤ) (e : Flat) → IsForm l.tops f → IsFair l e → opened (imposed f k e) ≡ alive_then (opened e) (reference.impose_of f k)
 unfolding imposed
 imposed_is l f k e h fair = terms_is (length l.tops) f.first f.second (k -ℤ f.c) e h.first h.second (has_all l e fair)
 

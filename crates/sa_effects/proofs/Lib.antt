@@ -1,3 +1,6 @@
 pub mod Bridges
 pub mod Forms
 pub mod Tame
+pub mod Formed
+pub mod Guards
+pub mod Light

@@ -1,5 +1,5 @@
 -- Conversions leave the constants of forms as they are.
-use Rattle.std.proofs.Common.{◌≡◌, true, false, Option, Some, None}
+use Rattle.std.proofs.Common.{true, false, Option, Some, None}
 use Rattle.std.specs.Prelude.{if◌then◌else◌, IfSome}
 use Rattle.sa_base.specs.declared.num.Num.{Num}
 use Rattle.sa_interval.specs.Span.{Span}

@@ -1,10 +1,10 @@
 -- What environments of a shop are to the reference analysis with its domain of intervals: the same intervals, in lists of its
 -- own, where None stands for the dead one.
-use Rattle.std.specs.Prelude.{◌≡◌, ℕ, ◌<◌, ℤ, pos, Bool, true, false, List, length, Option, None, Some, option_map}
+use Rattle.std.specs.Prelude.{◌≡◌, ℕ, ◌<◌, ℤ, pos, Bool, true, false, length, Option, None, Some, option_map}
 use Rattle.sa_interval.specs.Span.{Span}
 use Rattle.sa_env.specs.declared.env.Env.{Env}
 use Rattle.sa_env.specs.declared.form.Form.{Form}
-use Rattle.sa_env.specs.Flat.{Flat, dead, live, Limits, IsFair, clock_of, cell_of, assigned, join, is_below, ticked, spread, top_of}
+use Rattle.sa_env.specs.Flat.{Flat, dead, live, Limits, IsFair, clock_of, cell_of, assigned, join, is_below, ticked, spread}
 use Rattle.sa_env.specs.Forms.{IsForm, imposed}
 use Rattle.sa_env.specs.Shop.{Stock, flat_of}
 use Rattle.sa_flat.specs.Intervals as reference

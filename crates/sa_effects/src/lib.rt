@@ -7,8 +7,11 @@
 #![tactic(auto)]
 
 mod form;
+mod guard;
 mod laws;
 mod value;
 
 pub use laws::environments_are_flat;
+/// Want of memory, the one answer that no clause ties to anything.
+pub use std::alloc::AllocError as OutOfMemory;
 pub use value::Value;

@@ -67,7 +67,8 @@ fn sum_forms(f: Option<Form>, g: Option<Form>) -> Option<Form>
     }
 }
 
-fn difference_forms(f: Option<Form>, g: Option<Form>) -> Option<Form>
+/// The form of a difference.
+pub(crate) fn difference_forms(f: Option<Form>, g: Option<Form>) -> Option<Form>
     requires first { IfSome f (λ f. IsModest f.c) }
     requires second { IfSome g (λ g. IsModest g.c) }
     ensures { result ≡ both_forms f g difference_form }
@@ -132,7 +133,8 @@ fn operation_form(op: Operator, num: Num, a: Value, b: Value) -> Option<Form>
     }
 }
 
-fn negative_form(f: Option<Form>) -> Option<Form>
+/// What a form is taken from 0.
+pub(crate) fn negative_form(f: Option<Form>) -> Option<Form>
     requires { IfSome f (λ f. IsModest f.c) }
     ensures { result ≡ option_map negative f }
 {

@@ -1,4 +1,4 @@
-use Rattle.std.proofs.Common.{rules, ◌≡◌, ◌++◌, ◌∙◌, ap, Option, true, false, arith, ◌+ℤ◌, to_z, of_z}
+use Rattle.std.proofs.Common.{rules, ◌≡◌, ◌∙◌, ap, Option, true, false, arith, ◌+ℤ◌, to_z, of_z}
 use mir.Syntax.{w128}
 use Rattle.std.proofs.lemmas.Int.{ints}
 use Rattle.sa_env.specs.declared.form.Term.{Term}
