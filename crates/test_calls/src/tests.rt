@@ -205,3 +205,29 @@ fn a_long_way_to_a_ring(rt: HostRuntime) -> Result<(), Fail> {
     assert_eq!(rt; first_over(alloc, &program)?, Some(Limit::Calls));
     Ok(())
 }
+
+/// A main that calls so many functions, of which each but the last calls the last one.
+fn fan(alloc: Global, count: u32) -> Result<Program, OutOfMemory> {
+    let mut funcs = Items::new(alloc);
+    let mut main = Items::new(alloc);
+    for f in 1..count {
+        main.push(call(alloc, f, f))?;
+    }
+    funcs.push(func(alloc, main)?)?;
+    for f in 2..count {
+        let mut body = Items::new(alloc);
+        body.push(call(alloc, count.saturating_sub(1), f))?;
+        funcs.push(func(alloc, body)?)?;
+    }
+    funcs.push(func(alloc, Items::new(alloc))?)?;
+    Ok(program(alloc, funcs))
+}
+
+#[test]
+fn many_functions(rt: HostRuntime) -> Result<(), Fail> {
+    let alloc = rt.alloc();
+    let program = fan(alloc, 5_000)?;
+    assert_eq!(rt; column(first_back(alloc, &program)?), 0);
+    assert_eq!(rt; first_over(alloc, &program)?, None);
+    Ok(())
+}
