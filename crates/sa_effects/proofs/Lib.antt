@@ -4,3 +4,4 @@ pub mod Tame
 pub mod Formed
 pub mod Guards
 pub mod Light
+pub mod Operations

@@ -9,6 +9,7 @@
 mod form;
 mod guard;
 mod laws;
+mod read;
 mod value;
 
 pub use laws::environments_are_flat;
