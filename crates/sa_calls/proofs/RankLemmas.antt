@@ -1,10 +1,11 @@
 -- Ranks: a function calls functions of lower rank alone exactly where no call leads back.
-use Rattle.std.proofs.Common.{◌≡◌, ℕ, zero, suc, ◌+◌, ◌<◌, ◌≤◌, Bool, true, false, List, [], ◌∷◌, length, drop, get_or, refl, sym, ap, subst, ◌∙◌, arith, Option, Some, None}
+use Rattle.std.proofs.Common.{◌≡◌, ℕ, zero, suc, ◌+◌, ◌^◌, ◌<◌, ◌≤◌, Bool, true, false, List, [], ◌∷◌, length, drop, get_or, refl, sym, ap, subst, ◌∙◌, arith, Option, Some, None}
 use Rattle.std.proofs.lemmas.Bool.Decides.{nat_tests}
 use Rattle.std.proofs.lemmas.List.{drop_more, drop_all}
 use Rattle.std.specs.List.{AllByRecursion}
 use Rattle.std.specs.Prelude.{max, min, slice_get, nat_lt, ◌&&◌}
 use Rattle.sa_typed.specs.Executions.{block_of}
+use Rattle.sa_typed.specs.Frames.{body_statements}
 use Rattle.sa_typed.specs.TypedPrograms.{Site, calls_in, AreRanked}
 use Rattle.sa_typed.specs.declared.program.Func.{Func}
 use Rattle.sa_typed.specs.declared.program.Program.{Program}
@@ -13,8 +14,8 @@ use Rattle.sa_calls.specs.declared.graph.Call.{Call}
 use Rattle.sa_calls.specs.declared.weights.Weight.{Weight}
 use Rattle.sa_calls.specs.Depths.{deepest, body_calls}
 use Rattle.sa_calls.specs.Recursion.{as_calls, graph_of, calls_at, Leads, IsFirstBack}
-use Rattle.sa_calls.specs.Weights.{weight_at, AreWeights, all_below}
-use Rattle.sa_calls.proofs.DepthLemmas.{all-below, calls-cut}
+use Rattle.sa_calls.specs.Weights.{weight, weight_at, AreWeights, all_below, is_settled}
+use Rattle.sa_calls.proofs.DepthLemmas.{all-below, calls-cut, statements-enough}
 
 -- ---- ranks by depths
 each-above : (B : ℕ → ℕ) (m : ℕ) (sites : List Site) → deepest B sites ≤ m → AllByRecursion (λ s. B s.func < m) sites
@@ -126,3 +127,20 @@ shallow p depth rows is are below = depths-rank p depth (omega (arith, is)) (λ 
 
 pub shallow-none : (p : Program) (depth : ℕ) (rows : List Weight) → depth ≡ min (length p.funcs) 65 → AreWeights p depth rows → all_below depth rows ≡ true → IsFirstBack (graph_of p.funcs) None
 shallow-none p depth rows is are below = none-back p (body_calls p depth) (shallow p depth rows is are below)
+
+-- ---- rounds that change nothing any more
+settled : (p : Program) (depth done : ℕ) (rows : List Weight) → done < 2 ^ 64 → done ≤ depth → 0 < done → all_below done rows ≡ true → AreWeights p done rows → AreWeights p depth rows
+settled p depth done rows fits l some below are = λ f.
+    let b = below-at done rows f some below in
+    let e = ap (λ (w : Weight). w.calls) (are f) in
+    let shallow : body_calls p done f < done = omega (arith, b, e, fits) in
+    let cut = calls-cut p done depth f l in
+    let calls : body_calls p done f ≡ body_calls p depth f = omega (arith, cut, shallow) in
+    are f ∙ ap (λ (c : ℕ). weight c (body_statements p done f)) calls ∙ ap (weight (body_calls p depth f)) (statements-enough p done depth f l shallow)
+
+pub settled-rows : (p : Program) (depth done : ℕ) (rows : List Weight) → done < 2 ^ 64 → done ≤ depth → is_settled done rows ≡ true → AreWeights p done rows → AreWeights p depth rows
+settled-rows p depth done rows fits l = by (nat_lt 0 done) refl
+  where
+    by : (b : Bool) → nat_lt 0 done ≡ b → (b && all_below done rows) ≡ true → AreWeights p done rows → AreWeights p depth rows
+    by true e h are = settled p depth done rows fits l (grind (arith, nat_tests, e)) h are
+    by false e h are = cc

@@ -80,6 +80,10 @@ unfoldable pub all_below : ℕ → List Weight → Bool
 all_below depth [] = true
 all_below depth (w ∷ rows) = nat_lt w.calls depth && all_below depth rows
 
+-- a round more would change nothing after so many
+abbrev pub is_settled : ℕ → List Weight → Bool
+is_settled rounds rows = nat_lt 0 rounds && all_below rounds rows
+
 -- the first limit that the inlined program is over
 unfoldable pub over_limit : ℕ → ℕ → Option Limit
 over_limit calls statements = if nat_lt (limit_number Calls) calls then Some Calls else if nat_lt (limit_number Statements) statements then Some Statements else None

@@ -1,7 +1,7 @@
 //! How deep calls go, and how many statements the inlined program has.
 
 ghost use Rattle.std.specs.Prelude.{◌≡◌, length, min, true, None, IfOk};
-ghost use Rattle.sa_calls.specs.Weights.{nothing, one, both, one_more, called, with_step, weight_at, weight_in, weight_after, groups_after, deeper, all_below, over_limit, first_over, AreWeights};
+ghost use Rattle.sa_calls.specs.Weights.{nothing, one, both, one_more, called, with_step, weight_at, weight_in, weight_after, groups_after, deeper, all_below, is_settled, over_limit, first_over, AreWeights};
 ghost use Rattle.sa_calls.specs.Recursion.{graph_of, IsFirstBack};
 
 use crate::OutOfMemory;
@@ -147,24 +147,6 @@ fn deeper(alloc: Global, rows: &[Weight], funcs: &[Func]) -> Result<Vec<Weight>,
     Ok(next)
 }
 
-/// The weights of all bodies, where calls inside calls go so deep.
-fn weights(alloc: Global, program: &Program, depth: usize) -> Result<Vec<Weight>, OutOfMemory>
-    ensures { IfOk result (λ r. AreWeights program.now depth r.items) }
-{
-    let mut rows = Vec::new(alloc);
-    for _ in 0..depth {
-        rows = deeper(alloc, &rows, program.funcs.as_slice())?;
-    }
-    Ok(rows)
-}
-
-/// As many rounds as calls may stand on a path, and one more, tell the depth of each body that isn't too deep.
-fn rounds(program: &Program) -> usize
-    ensures { result ≡ min (length program.now.funcs) 65 }
-{
-    program.funcs.len().min(Limit::Calls.number() as usize + 1)
-}
-
 /// Whether all of them have fewer calls on a path.
 fn all_below(rows: &[Weight], depth: usize) -> bool
     ensures { result ≡ all_below depth rows.now }
@@ -175,6 +157,34 @@ fn all_below(rows: &[Weight], depth: usize) -> bool
         }
     }
     true
+}
+
+/// Whether one round more would change nothing after so many.
+fn is_settled(rows: &[Weight], rounds: usize) -> bool
+    ensures { result ≡ is_settled rounds rows.now }
+{
+    0 < rounds && all_below(rows, rounds)
+}
+
+/// The weights of all bodies, where calls inside calls go so deep.
+fn weights(alloc: Global, program: &Program, depth: usize) -> Result<Vec<Weight>, OutOfMemory>
+    ensures { IfOk result (λ r. AreWeights program.now depth r.items) }
+{
+    let mut rows = Vec::new(alloc);
+    for done in 0..depth {
+        if is_settled(&rows, done) {
+            return Ok(rows);
+        }
+        rows = deeper(alloc, &rows, program.funcs.as_slice())?;
+    }
+    Ok(rows)
+}
+
+/// As many rounds as calls may stand on a path, and one more, tell the depth of each body that isn't too deep.
+fn rounds(program: &Program) -> usize
+    ensures { result ≡ min (length program.now.funcs) 65 }
+{
+    program.funcs.len().min(Limit::Calls.number() as usize + 1)
 }
 
 /// Whether no function has more calls on a path than may stand there: then none leads back to itself.
