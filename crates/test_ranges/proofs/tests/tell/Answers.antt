@@ -13,5 +13,5 @@ as_many [] (y ∷ ys) h = absurd h
 as_many (x ∷ xs) [] h = absurd h
 as_many (x ∷ xs) (y ∷ ys) h = ap suc (as_many xs ys h.1)
 
-pub between-requires-clause-input : goal.between-requires-clause-input
-between-requires-clause-input c = let same = as_many c.args.ranges.now.inputs c.args.program.now.inputs c.requires in omega (arith, same)
+pub between-lo-requires-clause-input : goal.between-lo-requires-clause-input
+between-lo-requires-clause-input c = let same = as_many c.args.ranges.now.inputs c.args.program.now.inputs c.requires in omega (arith, same)
