@@ -4,4 +4,5 @@ pub mod Tame
 pub mod Formed
 pub mod Guards
 pub mod Light
+pub mod Fine
 pub mod Operations

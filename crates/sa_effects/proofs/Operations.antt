@@ -18,7 +18,7 @@ use Rattle.sa_effects.specs.declared.value.Value.{Value}
 use Rattle.sa_effects.specs.Values.{held, value_at, operated, prefixed, converted}
 
 -- values are the same where their parts are
-abbrev made : Option Span → Option Form → Value
+abbrev pub made : Option Span → Option Form → Value
 made s f = record { span = s; form = f }
 
 same_value : (s t : Option Span) (f g : Option Form) → s ≡ t → f ≡ g → made s f ≡ made t g
