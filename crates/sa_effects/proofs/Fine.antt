@@ -1,11 +1,14 @@
 -- Values of plain expressions are of their types, and their forms are those that code can add and guard by.
-use Rattle.std.proofs.Common.{◌≡◌, ℕ, zero, suc, ◌<◌, ℤ, pos, List, [], ◌∷◌, length, refl, sym, subst, arith, true, false, Option, Some, None}
+use Rattle.std.proofs.Common.{◌≡◌, ℕ, zero, suc, ◌<◌, ℤ, pos, List, [], ◌∷◌, length, refl, sym, subst, arith, true, false, Option, Some, None, get_or}
 use Rattle.std.specs.Prelude.{IfSome, IsTrue, slice_get, if◌then◌else◌}
 use Rattle.std.proofs.lemmas.Int.{ints}
 use Rattle.sa_base.specs.declared.num.Num.{Num}
 use Rattle.sa_interval.specs.Span.{Span}
 use Rattle.sa_interval.specs.Rows.{single}
 use Rattle.sa_typed.specs.Arithmetic.{IsOf, result_type, prefix_type}
+use Rattle.sa_typed.proofs.ArithmeticLaws.{num_facts}
+use Rattle.sa_shared.specs.Slots.{EachSlot}
+use Rattle.sa_env.specs.Flat.{Flat, dead, live, Limits, IsFair, IsIn as InRange}
 use Rattle.sa_typed.specs.WellTyped.{converts, right_converts, IsLink}
 use Rattle.sa_typed.specs.declared.expr.Operator.{Operator}
 use Rattle.sa_typed.specs.declared.expr.Operator.TheVariants as o
@@ -21,10 +24,11 @@ use Rattle.sa_flat.specs.Expressions.{meaning, operations, targets}
 use Rattle.sa_flat.specs.Meanings.{Meaning, Target, Cells, operation, at_cell, read_operand}
 use Rattle.sa_flat.proofs.Operands.{InType, suits, link_in, prefix_in, convert_in}
 use Rattle.sa_effects.specs.declared.value.Value.{Value}
-use Rattle.sa_effects.specs.Values.{value_at, operated, prefixed, converted, IsFormed}
+use Rattle.sa_effects.specs.Values.{value_at, operated, prefixed, converted, IsFormed, IsGuard}
+use Rattle.sa_effects.specs.Stands.{opened}
 use Rattle.sa_effects.specs.Plain.{num_of, last_num, IsPlain, ArePlain, HasNone}
 use Rattle.sa_effects.proofs.Formed.{operated_formed, prefixed_formed, converted_formed}
-use Rattle.sa_effects.proofs.Light.{IsOfCells, operation_of_cells, prefix_of_cells, converted_of_cells}
+use Rattle.sa_effects.proofs.Light.{IsOfCells, AreNumbers, guard_by, operation_of_cells, prefix_of_cells, converted_of_cells}
 use Rattle.sa_effects.proofs.Operations.{made, operation_at, prefix_at, cell_at}
 
 suits_right : (op : Operator) (from to : Num) (s : Span) → IsTrue (right_converts op from to) → IsIn from s → SuitsRight op to s
@@ -151,3 +155,40 @@ module _ (r : reference.Limits) (y : Cells) (nums : List Num) (a : reference.Fla
         (subst (λ (v : Value). IsFine (result_type op work) v) (sym (operation_at r a op work m.value (meaning D y b).value))
         (operated_fine (reference.ranges nums) least op left work (num_of b) (value_at m.value a) (value_at (meaning D y b).value a) k.1.0 h (fine b k.0)))
         k.1.1
+
+-- ---- fair environments
+slot_in : (nums : List Num) (xs : List Span) → EachSlot InRange (reference.ranges nums) xs → (c : ℕ) (num : Num) → slice_get nums c ≡ Some num → IsIn num (get_or xs c (single (pos 0)))
+slot_in [] xs h c num e = cc
+slot_in (n ∷ nums) [] h c num e = absurd h
+slot_in (n ∷ nums) (x ∷ xs) h zero num e = subst (λ (m : Num). IsIn m x) (same n num e) (record { ordered = h.0.ordered; part = h.0.part })
+  where
+    same : (n m : Num) → Some n ≡ Some m → n ≡ m
+    same n m e = cc
+slot_in (n ∷ nums) (x ∷ xs) h (suc c) num e = slot_in nums xs h.1 c num e
+
+-- the numbers of each cell are of its type
+pub fair_fits : (nums : List Num) (l : Limits) (f : Flat) (a : reference.Flat) → l.tops ≡ reference.ranges nums → IsFair l f → opened f ≡ Some a → (c : ℕ) (num : Num) → slice_get nums c ≡ Some num → IsIn num (reference.cell_of c a)
+fair_fits nums l dead a t h e c num k = cc
+fair_fits nums l (live clock xs) a t h e c num k =
+    subst (λ (a : reference.Flat). IsIn num (reference.cell_of c a)) (same _ a e) (slot_in nums xs (subst (λ (ts : List Span). EachSlot InRange ts xs) t h.1) c num k)
+  where
+    same : (a b : reference.Flat) → Some a ≡ Some b → a ≡ b
+    same a b e = cc
+
+type_at : (nums : List Num) (c : ℕ) → c < length (reference.ranges nums) → (num : Num) × (slice_get nums c ≡ Some num)
+type_at [] c h = absurd (omega (arith, h))
+type_at (n ∷ nums) zero h = (n, refl)
+type_at (n ∷ nums) (suc c) h = type_at nums c (omega (arith, h))
+
+-- a value of a plain expression is one to guard by, and its form has a constant that code can add
+pub guard_fine : (nums : List Num) (a : reference.Flat) → ((c : ℕ) (num : Num) → slice_get nums c ≡ Some num → IsIn num (reference.cell_of c a)) → (num : Num) (v : Value) →
+    IsOperand (reference.ranges nums) (λ c. (reference.cell_of c a).lo) num v → IsGuard (reference.ranges nums) v
+guard_fine nums a fits num v h = guard_by (reference.ranges nums) (λ c. (reference.cell_of c a).lo) v numbers (small_in num v.span h.of_type) h.formed h.cells
+  where
+    numbers : AreNumbers (reference.ranges nums) (λ c. (reference.cell_of c a).lo)
+    numbers c less =
+        let t = type_at nums c less in
+        let i = fits c t.0 t.1 in
+        let k = num_facts t.0 in
+        let low = k.least in let high = k.greatest in let order = i.ordered in let above = i.part.above in let below = i.part.below in
+        record { above = omega (arith, ints); below = omega (arith, ints) }
