@@ -4,3 +4,5 @@ pub mod OccurringLaws
 pub mod ShownLaws
 pub mod Counts
 pub mod ArgumentLaws
+pub mod KeptLaws
+pub mod FrameLaws

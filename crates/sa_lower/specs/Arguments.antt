@@ -28,3 +28,7 @@ list_far l (s ∷ ss) = step_far l s + list_far (step_layout l s) ss
 unfoldable pub list_kept : Layout → ℕ → List Step → List Kept
 list_kept l h [] = []
 list_kept l h (s ∷ ss) = step_kept l h s ++ list_kept (step_layout l s) (h + step_count s) ss
+
+unfoldable pub list_count : List Step → ℕ
+list_count [] = 0
+list_count (s ∷ ss) = step_count s + list_count ss

@@ -3,3 +3,4 @@ pub mod Occurring
 pub mod Showing
 pub mod Counting
 pub mod Arguments
+pub mod References
