@@ -6,3 +6,4 @@ pub mod VisitLemmas
 pub mod FirstLemmas
 pub mod RankLemmas
 pub mod RankLaws
+pub mod RoomLemmas

@@ -1,3 +1,4 @@
 pub mod Depths
 pub mod Weights
 pub mod Recursion
+pub mod Rooms

@@ -10,10 +10,12 @@
 mod graph;
 mod laws;
 mod recursion;
+mod rooms;
 mod weights;
 
 pub use graph::Call;
 pub use laws::{ranked_leads_nowhere_back, ranks_are_there};
 pub use recursion::first_back;
+pub use rooms::frame_cells;
 pub use std::alloc::AllocError as OutOfMemory;
 pub use weights::{Weight, first_over};
